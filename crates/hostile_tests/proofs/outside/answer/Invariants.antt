@@ -1,5 +1,0 @@
-use Rattle.std.specs.Prelude.{None}
-use Rattle.hostile_tests.proofs.outside.answer.Given as goal
-
-abbrev pub ghost-run : goal.ghost-run
-ghost-run g a = None
