@@ -1,5 +1,7 @@
--- What is told of a file that is not whole, and the status of several.
+-- What is told of a file that is not whole, the status of several, and the place of damage.
 use Rattle.std.specs.Prelude.{ℕ, List, [], Option, Some, None, ◌==◌, ◌||◌, Bool, false, ◌∷◌, if◌then◌else◌}
+use Rattle.log_seams.specs.Disk.{DiskState, KeepsBytes}
+use Rattle.archive_open.specs.Shown.{RefusedAt}
 use Rattle.command_refusals.specs.Outcome.{of_part}
 use Rattle.command_refusals.specs.Refusal.{file_line_of, file_status_of}
 use Rattle.command_refusals.specs.declared.outcome.PartCause.{PartCause}
@@ -28,3 +30,8 @@ gravest statuses = if has 5 statuses then 5 else (if has 9 statuses then 9 else 
 abbrev pub gravest_of_call : List ℕ → ℕ
 gravest_of_call statuses =
     if has 7 statuses then 7 else (if has 5 statuses then 5 else (if has 6 statuses then 6 else gravest statuses))
+
+-- Damage is told at this place: where the bytes are told they are no archive, and the place is 0, for want of a header, or a gate
+-- that is not before the first damage. They stay as they are.
+abbrev pub IsDamagedAt : ℕ → DiskState → DiskState → Type 0
+IsDamagedAt at old new = RefusedAt at old.seen × KeepsBytes old new

@@ -60,3 +60,12 @@ CameOf left name faults content old new asked (Unopened OutOfMemory n) = n ≡ 0
 abbrev pub IsCounted : {S : Type 0} → (S → Option (List ℕ)) → (S → ℕ) → (List ℕ → ℕ) → (List ℕ → ℕ) → LogSource S → Type 0
 IsCounted name faults old new (Opened s) = (n : List ℕ) → IfSome (name s) (λ m. m ≡ n) → Rose 0 (faults s) → Rose (old n) (new n)
 IsCounted name faults old new (Unopened cause n) = Unit {0}
+
+-- What is told of this name as unread, where these logs were closed, the last one first: what is left of the first log that has
+-- the name, or tells none. Where there is none, it is what was told before.
+abbrev pub IsUnread : {S : Type 0} → (S → Option (List ℕ)) → (S → Option (List ℕ)) → List ℕ → Option (List ℕ) → Option (List ℕ)
+    → List (LogSource S) → Type 0
+IsUnread left name n old new [] = new ≡ old
+IsUnread left name n old new (Opened s ∷ logs) = (IfSome (name s) (λ m. m ≡ n) → new ≡ left s)
+    × ((IfSome (name s) (λ m. m ≡ n) → ⊥) → IsUnread left name n old new logs)
+IsUnread left name n old new (Unopened cause faults ∷ logs) = IsUnread left name n old new logs

@@ -1,7 +1,7 @@
 //! The logs of a list of names.
-ghost use Rattle.std.specs.Prelude.{◌≡◌, ◌≤◌, ℕ, List, map, All, IfOk};
+ghost use Rattle.std.specs.Prelude.{◌≡◌, ◌≤◌, ℕ, List, [], ◌∷◌, map, All, IfOk};
 ghost use Rattle.std.specs.List.{AllZip};
-ghost use Rattle.log_sources.specs.Sources.{CameOf, IsCounted, str_bytes};
+ghost use Rattle.log_sources.specs.Sources.{CameOf, IsCounted, IsUnread, str_bytes};
 
 use crate::source::LogSource;
 use log_seams::Shelf;
@@ -56,6 +56,8 @@ fn close_one<H: Shelf>(shelf: &mut H, source: LogSource<H::Src>)
     ensures reads { (n : List ℕ) → H.read_faults shelf.old n ≤ H.read_faults shelf.new n }
     ensures counted { IsCounted H.Src.name H.Src.faults
         (H.read_faults shelf.old) (H.read_faults shelf.new) source }
+    ensures unread { (n : List ℕ) → IsUnread H.Src.left H.Src.name n
+        (H.unread shelf.old n) (H.unread shelf.new n) (source ∷ []) }
 {
     match source {
         LogSource::Opened(source) => shelf.close_log(source),
@@ -63,8 +65,8 @@ fn close_one<H: Shelf>(shelf: &mut H, source: LogSource<H::Src>)
     }
 }
 
-/// Ends the reading of logs. Where reads of one failed since it was opened, the count of faults in reading
-/// its name rose.
+/// Ends the reading of logs, the last one first. Where reads of one failed since it was opened, the count of
+/// faults in reading its name rose.
 pub fn close_logs<H: Shelf>(shelf: &mut H, mut sources: Vec<LogSource<H::Src>>)
     // what stays
     ensures content { (n : List ℕ) → H.content shelf.new n ≡ H.content shelf.old n }
@@ -74,6 +76,10 @@ pub fn close_logs<H: Shelf>(shelf: &mut H, mut sources: Vec<LogSource<H::Src>>)
     ensures reads { (n : List ℕ) → H.read_faults shelf.old n ≤ H.read_faults shelf.new n }
     ensures counted { All (IsCounted H.Src.name H.Src.faults
         (H.read_faults shelf.old) (H.read_faults shelf.new)) sources.items }
+
+    // what is told as unread
+    ensures unread { (n : List ℕ) → IsUnread H.Src.left H.Src.name n
+        (H.unread shelf.old n) (H.unread shelf.new n) sources.items }
 {
     while let Some(source) = sources.pop() {
         close_one(shelf, source);
