@@ -64,6 +64,37 @@ fn a_read_that_fails_leaves_the_messages_before(rt: HostRuntime) -> Result<(), F
     Ok(())
 }
 
+/// Whether a log that is given twice, and whose second read fails, leaves what was before in both files.
+fn twice_leaves<R: Threads + Wait + Sync>(
+    rt: &R,
+    alloc: Global,
+    archive: &mut MemDisk,
+) -> Result<bool, AllocError> {
+    let mut logs = shelf(alloc, &[("b.log", LOG, 1)], NEVER)?;
+    let out = b"0 1 part b.log\n1 1 part b.log\n".as_slice();
+    let err = b"clpa: b.log: read failed\nclpa: b.log: read failed\n".as_slice();
+    let words = ["ingest", "b.log", "b.log"];
+    Ok(
+        tells(rt, alloc, &words, &mut logs, archive, (4, out, err))?
+            && prints(rt, alloc, &["decode", "0"], archive, b"7 x7\n")?
+            && prints(rt, alloc, &["decode", "1"], archive, b"7 x7\n")?,
+    )
+}
+
+fn twice_leaves_anew<R: Threads + Wait + Sync>(rt: &R, alloc: Global) -> Result<bool, AllocError> {
+    let mut archive = disk(alloc, &EMPTY, NEVER)?;
+    twice_leaves(rt, alloc, &mut archive)
+}
+
+#[test]
+fn a_read_that_fails_of_a_log_given_twice_leaves_the_messages_before(
+    rt: HostRuntime,
+) -> Result<(), Fail> {
+    let well = twice_leaves_anew(&rt, rt.alloc())?;
+    assert!(rt; well);
+    Ok(())
+}
+
 const THREE: &[Log<'static>] = &[
     ("a.log", b"a\n", NEVER),
     ("b.log", b"b\n", NEVER),
