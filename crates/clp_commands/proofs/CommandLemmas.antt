@@ -11,8 +11,8 @@ use Rattle.command_refusals.specs.Ending.{RefusesAtOnce}
 use Rattle.command_refusals.specs.declared.outcome.AddRefusal.{AddRefusal}
 use Rattle.command_answers.specs.Names.{RefusesNames}
 use Rattle.command_answers.specs.Answers.{AnswersWatch}
-use Rattle.command_answers.specs.Ingested.{EndsIngest}
-use Rattle.command_answers.specs.Known.{KnownArchive, over}
+use Rattle.command_answers.specs.Known.{KnownArchive}
+use Rattle.write_commands.specs.StepsKnown.{EndsIngestAt}
 use Rattle.command_answers.specs.Answers.{Answers, AnswersAsked}
 use Rattle.command_answers.specs.Words.{UsesArchive}
 use Rattle.clp_commands.specs.Turns.{AskForTurns, TakesTurns}
@@ -54,9 +54,9 @@ some_of f (x ∷ xs) some = omega arith
 -- what `ingest` answers, by its names and by how it ends
 pub ingest_answers : (known : Option KnownArchive) (workers rows : ℕ) (names : List (List ℕ)) (seen : Outside) (old new second second_new : DiskState) (status : ℕ) (watch : Option (List ℕ)) → watch ≡ None
     → ((refusal : AddRefusal) → RefusesNames names (Some refusal) → RefusesAtOnce seen old new status (of_add refusal))
-    → EndsIngest workers rows names seen (over known old old) (over known old new) status → AnswersAsked known (to_ingest workers rows watch names) seen old new second second_new status
+    → EndsIngestAt known workers rows names seen old new status → AnswersAsked known (to_ingest workers rows watch names) seen old new second second_new status
 ingest_answers known workers rows names seen old new second second_new status watch is first ends =
-    subst (λ w. AnswersAsked known (to_ingest workers rows w names) seen old new second second_new status) (sym is) (record { names_first = first; ends = ends })
+    subst (λ w. AnswersAsked known (to_ingest workers rows w names) seen old new second second_new status) (sym is) (record { names_first = first; ends = ends.0; damaged = ends.1 })
 
 -- and with a pattern that is watched for
 pub watch_answers : (known : Option KnownArchive) (workers rows : ℕ) (names : List (List ℕ)) (seen : Outside) (old new second second_new : DiskState) (status : ℕ) (pattern : List ℕ) (watch : Option (List ℕ)) → watch ≡ Some pattern

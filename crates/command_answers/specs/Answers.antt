@@ -20,7 +20,7 @@ use Rattle.disk_journal.specs.declared.refusals.CreateRefusal.{CreateRefusal}
 use Rattle.command_answers.specs.Known.{KnownArchive, over}
 use Rattle.command_answers.specs.Names.{RefusesNames}
 use Rattle.command_refusals.specs.declared.outcome.AddRefusal.{AddRefusal}
-use Rattle.command_answers.specs.Ingested.{EndsIngest, FromArchive}
+use Rattle.command_answers.specs.Ingested.{EndsIngest, FromArchive, IfRefused, TellsDamage}
 use Rattle.command_answers.specs.Watching.{EndsWatch}
 use Rattle.command_answers.specs.Merging.{MayCome, MeetsNoLimit, Merge, Merges, PrintsMerge}
 use Rattle.command_answers.specs.Upgrading.{EndsUpgrade, MetNone}
@@ -73,12 +73,13 @@ pub record AnswersCreate (header : Header) (seen : Outside) (old new : DiskState
 
 -- What `ingest` answers, whatever archive is known. Names that are refused by themselves are refused before all else, whatever
 -- the disk tells, and nothing is touched. What is said of the disk's bytes, and of the journal that they stand for, holds where
--- they were those of the known archive at the start.
+-- they were those of the known archive at the start; where damage is, is told of any bytes.
 pub record AnswersIngest (known : Option KnownArchive) (workers rows : ℕ) (names : List (List ℕ)) (seen : Outside)
     (old new : DiskState) (status : ℕ) : Type 0 where
   pub names_first : (refusal : AddRefusal) → RefusesNames names (Some refusal)
       → RefusesAtOnce seen old new status (of_add refusal)
   pub ends : EndsIngest workers rows names seen (over known old old) (over known old new) status
+  pub damaged : IfRefused (TellsDamage old new) ends
 
 -- What `ingest --watch` answers for a pattern that is one, whatever archive is known, as `ingest` does. There may be no memory for
 -- the pattern, which is read before the names are looked at.
@@ -87,6 +88,7 @@ pub record AnswersGoodWatch (known : Option KnownArchive) (workers rows : ℕ) (
   pub names_first : (refusal : AddRefusal) → RefusesNames names (Some refusal)
       → RefusesAtOnce seen old new status (of_add refusal) ⊎ LacksMemoryAtOnce seen old new status
   pub ends : EndsWatch workers rows items names seen (over known old old) (over known old new) status
+  pub damaged : IfRefused (TellsDamage old new) ends
 
 -- What `ingest --watch` answers: the pattern is refused, or the files are taken in.
 pub record AnswersWatch (known : Option KnownArchive) (workers rows : ℕ) (pattern : List ℕ) (names : List (List ℕ))

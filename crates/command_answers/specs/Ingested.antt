@@ -1,7 +1,9 @@
 -- What the taking of files into an archive leaves: the journal, the content of the archive, what a crash may leave of it,
 -- and what is printed.
+use Rattle.std.proofs.Common.{inl, inr}
 use Rattle.std.specs.Prelude.{◌≡◌, ◌≢◌, ◌+◌, ◌<◌, ◌≤◌, ◌⊎◌, ℕ, Bool, true, false, List, [], ◌∷◌, ◌++◌, length, map, take, All, Option, Some, None, IfSome, slice_get}
 use Rattle.std.specs.List.{AllZip, Contains, filter_map, flat_map}
+use Rattle.std.specs.Str.{is_utf8}
 use mathlib.Core.List.{IsPrefix}
 use Rattle.log_seams.specs.Disk.{DiskState, NoMore}
 use Rattle.log_seams.specs.Outside.{Rose}
@@ -29,28 +31,25 @@ use Rattle.command_answers.specs.Names.{RefusesMore, RefusesNames}
 use Rattle.command_refusals.specs.LogLimits.{IsLong, most_messages}
 use Rattle.command_refusals.specs.Reading.{OverJournal}
 use Rattle.command_refusals.specs.Outcome.{of_add}
-use Rattle.command_answers.specs.Taken.{file_error, file_status, gravest}
+use Rattle.command_answers.specs.Taken.{IsDamagedAt, file_error, file_status, gravest}
 use Rattle.command_refusals.specs.declared.outcome.AddRefusal.{AddRefusal}
 use Rattle.command_refusals.specs.declared.outcome.PartCause.{PartCause}
 use Rattle.command_refusals.specs.declared.outcome.AddRefusal.TheVariants.{NameTooLong, TooManyFiles}
 use Rattle.command_refusals.specs.declared.outcome.PartCause.TheVariants.{OpenFault, ReadFault, LineTooLong, TooManyLines, Full}
 use Rattle.command_refusals.specs.declared.refusal.Refusal.TheVariants.{SinkFault}
 
--- What came of a file: its name, the bytes that it was made of, where they are told, how many messages of them the archive has,
--- whether these are all, and why they are not.
+-- What came of a file: its name, the bytes that it was made of, where they are told, whether its log was opened, how many
+-- messages of it the archive has, whether these are all, and why they are not.
 pub record FileOutcome : Type 0 where
   pub name : List ℕ
   pub log : Option (List ℕ)
+  pub opened : Bool
   pub messages : ℕ
   pub whole : Bool
   pub refusal : Option PartCause
 
 abbrev pub names_in : List FileOutcome → List (List ℕ)
 names_in came = map (λ c. c.name) came
-
--- its log could not be opened: this was refused of it
-abbrev pub CouldNotOpen : FileOutcome → Type 0
-CouldNotOpen c = c.refusal ≡ Some OpenFault
 
 abbrev pub line_of_came : FileOutcome → FileLine
 line_of_came c = record { name = c.name; messages = c.messages; whole = c.whole }
@@ -63,10 +62,10 @@ IsMessageIn version log message =
     IfSome log (λ bytes. (messages : List (List ℕ)) (ended : Bool) → MessagesOf version bytes messages ended
     → Contains messages message)
 
--- The message is one of the log of a file. A log that could not be opened has none; of one that was, and whose bytes are not
--- told, nothing is said.
+-- The message is one of the log of a file. A log that was not opened has none, whatever it was not opened for; of one that was,
+-- and whose bytes are not told, nothing is said.
 abbrev pub IsGivenBy : ℕ → FileOutcome → List ℕ → Type 0
-IsGivenBy version c message = ¬ CouldNotOpen c × IsMessageIn version c.log message
+IsGivenBy version c message = (c.opened ≡ true) × IsMessageIn version c.log message
 
 -- it is one of these files
 abbrev pub IsGiven : ℕ → List FileOutcome → List ℕ → Type 0
@@ -149,13 +148,14 @@ FromArchive old P =
 
 -- ---- causes
 
--- what is told of the logs around a call: the counts of faults in opening and in reading them
+-- what is told of the logs around a call: the counts of faults in opening and in reading them, and what was left unread
 pub record Logs : Type 0 where
   pub opens : List ℕ → ℕ × ℕ
   pub reads : List ℕ → ℕ × ℕ
+  pub unread : List ℕ → Option (List ℕ)
 
 abbrev pub logs_of : Outside → Logs
-logs_of seen = record { opens = seen.opens; reads = seen.reads }
+logs_of seen = record { opens = seen.opens; reads = seen.reads; unread = seen.unread }
 
 -- where the bytes are told, they have more messages than so many
 abbrev pub HasMoreThan : ℕ → ℕ → Option (List ℕ) → Type 0
@@ -224,12 +224,25 @@ pub record DidNotFit (logs : Logs) (rows first : ℕ) (came : List FileOutcome) 
   pub room : OfTaken c (λ sealed. HadNoRoom h rows h.version (first + place) (StandFirst h named new)
       (WereGiven h.version came) (AreFirstOf h.version c.log) (HasEnded logs came h named c) sealed end need)
 
--- A read of a log with these bytes failed, and the messages that were taken in are those of the bytes before the fault.
+-- A read of a log with these bytes failed, and the messages that were taken in are those of the bytes before the fault: of all
+-- but those that were left behind it.
 pub record WasCutShort (version : ℕ) (c : FileOutcome) (bytes : List ℕ) : Type 0 where
   pub taken : List (List ℕ)
   pub count : c.messages ≡ length taken
   pub behind : Option (List ℕ)
   pub short : IsReadShort version bytes taken behind
+
+-- What was left of a file's log is what is told as unread of its name; of several files of one name it is the first. Where logs do
+-- not tell their names, the same is told of each text that was not given as a name.
+abbrev pub IsLeftOf : (List ℕ → Option (List ℕ)) → List FileOutcome → ℕ → FileOutcome → Option (List ℕ) → Type 0
+IsLeftOf unread came place c behind = (behind ≡ unread c.name) ⊎ Contains (take place (names_in came)) c.name
+    ⊎ ((n : List ℕ) → is_utf8 n ≡ true → ¬ Contains (names_in came) n → unread n ≡ unread c.name)
+
+-- Each log of which a read failed was cut short where it is told that it was left.
+abbrev pub AreCutShort : (List ℕ → Option (List ℕ)) → ℕ → List FileOutcome → Type 0
+AreCutShort unread version came =
+    (place : ℕ) (c : FileOutcome) (bytes : List ℕ) → slice_get came place ≡ Some c → c.refusal ≡ Some ReadFault
+    → c.log ≡ Some bytes → (cut : WasCutShort version c bytes) × IsLeftOf unread came place c cut.behind
 
 -- The line of this number of a log with these bytes is the first that is too long: the messages before it were taken in, and it
 -- follows them.
@@ -243,9 +256,8 @@ pub record IsNextTooLong (version : ℕ) (c : FileOutcome) (line : ℕ) (bytes :
 -- Want of memory is free.
 abbrev pub HasFileCause : ℕ → List FileOutcome → Outside → DiskState → DiskState → FileOutcome → Option PartCause → Type 0
 HasFileCause rows came seen old new c None = c.whole ≡ true
-HasFileCause rows came seen old new c (Some OpenFault) = RoseIn (seen.opens c.name) × (c.messages ≡ 0)
-HasFileCause rows came seen old new c (Some ReadFault) =
-    RoseIn (seen.reads c.name) × FromArchive old (λ h before bytes stood. IfSome c.log (WasCutShort h.version c))
+HasFileCause rows came seen old new c (Some OpenFault) = RoseIn (seen.opens c.name) × (c.opened ≡ false)
+HasFileCause rows came seen old new c (Some ReadFault) = RoseIn (seen.reads c.name)
 HasFileCause rows came seen old new c (Some (LineTooLong line)) =
     IfSome c.log (λ bytes. IsLong bytes line)
     × FromArchive old (λ h before bytes stood. IfSome c.log (IsNextTooLong h.version c line))
@@ -260,10 +272,15 @@ HasFileCause rows came seen old new c (Some (PartCause.ArchiveFull end need)) =
 HasFileCause rows came seen old new c (Some PartCause.DiskFault) = Rose old.faults new.faults
 HasFileCause rows came seen old new c (Some PartCause.OutOfMemory) = Unit {0}
 
+-- A log was not opened since its opening failed, or there was no memory for it, and nothing was taken of it.
+abbrev pub WasNotOpened : FileOutcome → Type 0
+WasNotOpened c = (c.messages ≡ 0) × ((c.refusal ≡ Some OpenFault) ⊎ (c.refusal ≡ Some PartCause.OutOfMemory))
+
 -- A file is whole exactly where nothing was refused of it, and a refusal has its cause.
 pub record CameOfFile (rows : ℕ) (came : List FileOutcome) (seen : Outside) (old new : DiskState) (c : FileOutcome) : Type 0 where
   pub cause : HasFileCause rows came seen old new c c.refusal
   pub part : c.refusal ≢ None → c.whole ≡ false
+  pub unopened : c.opened ≡ false → WasNotOpened c
 
 -- the bytes are as they were, and no image came: nothing was written
 abbrev pub WroteNothing : DiskState → DiskState → Type 0
@@ -312,7 +329,7 @@ unsealed_of rows (Some _) = rows
 module _ (rows : ℕ) where
   -- the message was met in this file, whose log was opened
   abbrev pub WasMetIn : ℕ → FileOutcome → List ℕ → Type 0
-  WasMetIn version c m = ¬ CouldNotOpen c × IsAmongFirst version c.log (c.messages + unsealed_of rows c.refusal) m
+  WasMetIn version c m = (c.opened ≡ true) × IsAmongFirst version c.log (c.messages + unsealed_of rows c.refusal) m
 
   -- it was met in one of these files
   abbrev pub WasMetInOneOf : ℕ → List FileOutcome → List ℕ → Type 0
@@ -381,6 +398,17 @@ pub record RefusesIngest (names : List (List ℕ)) (seen : Outside) (old new : D
   pub cause : HasCallCause names old new refusal
   pub disk : FromArchive old (λ h before bytes stood. TakesNothing h before old new)
 
+-- this holds of the refusal, where the call was refused so
+abbrev pub IfRefused : {names : List (List ℕ)} {seen : Outside} {old new : DiskState} {status : ℕ} {Takes : Type 0}
+    → (AddRefusal → Type 0) → RefusesIngest names seen old new status ⊎ Takes → Type 0
+IfRefused P (inl refuses) = P refuses.refusal
+IfRefused P (inr takes) = Unit {0}
+
+-- where damage is told, it is at its place, whatever archive is known
+abbrev pub TellsDamage : DiskState → DiskState → AddRefusal → Type 0
+TellsDamage old new (AddRefusal.Damaged at) = IsDamagedAt at old new
+TellsDamage old new _ = Unit {0}
+
 -- What came of each file is printed, in their order, numbered on from `first`; then a line on the error output for each that
 -- is not whole, and the status is the gravest. Where the output fails, or there is no memory for its lines, this alone is told.
 abbrev pub PrintsCame : List FileOutcome → ℕ → Outside → ℕ → Type 0
@@ -403,11 +431,12 @@ pub record AddsFiles (rows : ℕ) (names : List (List ℕ)) (seen : Outside) (ol
   pub numbered : OverJournal old.seen (λ journal. first ≡ length journal.names)
   pub disk : FromArchive old (λ h before bytes stood. TakesIn rows h before stood names came old new)
 
--- The same, and what came of each file has its cause. With one worker a dictionary is full by the files up to the one that it
--- stopped. With any number what was taken in fits in the dictionaries.
+-- The same, and what came of each file has its cause; a log of which a read failed was cut short there. With one worker a
+-- dictionary is full by the files up to the one that it stopped. With any number what was taken in fits in the dictionaries.
 pub record TakesFiles (workers rows : ℕ) (names : List (List ℕ)) (seen : Outside) (old new : DiskState) : Type 0 where
   pub adds : AddsFiles rows names seen old new
   pub each : All (CameOfFile rows adds.came seen old new) adds.came
+  pub cut : FromArchive old (λ h before bytes stood. AreCutShort seen.unread h.version adds.came)
   pub in_turn : workers ≡ 1 → AreFullInTurn rows old adds.came
   pub fits : AllFit old adds.came
 

@@ -89,8 +89,8 @@ FromNew header old new P =
 
 -- what is told of the reading of texts, where this ended it
 abbrev pub texts_read : Option UpgradeRefusal → Logs
-texts_read None = record { opens = λ name. (0, 0); reads = λ name. (0, 0) }
-texts_read (Some stop) = record { opens = λ name. (0, 0); reads = λ name. (0, 1) }
+texts_read None = record { opens = λ name. (0, 0); reads = λ name. (0, 0); unread = λ name. None }
+texts_read (Some stop) = record { opens = λ name. (0, 0); reads = λ name. (0, 1); unread = λ name. None }
 
 -- what a full dictionary and a full archive rest on, in a journal with these names
 abbrev pub HasLimitCause : ℕ → Option UpgradeRefusal → Header → List JournalEntry → List FileOutcome → DiskState → FileOutcome

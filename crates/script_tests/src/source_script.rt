@@ -19,6 +19,16 @@ is 4 "0 1 part b.log\n" "clpa: b.log: read failed\n"
 call decode 0
 is 0 "7 x7\n"
 
+# of a name that is given twice each file has what was before
+row
+disk $empty
+call ingest b.log b.log
+is 4 "0 1 part b.log\n1 1 part b.log\n" "clpa: b.log: read failed\nclpa: b.log: read failed\n"
+call decode 0
+is 0 "7 x7\n"
+call decode 1
+is 0 "7 x7\n"
+
 # ---- a log whose reads fail is opened once a call
 log n.log "a\nb" 1
 opening 1

@@ -18,7 +18,6 @@ use Rattle.row_codec.specs.Messages.{IsTypeOf, IsWordOf}
 use Rattle.name_records.specs.Named.{names_of}
 use Rattle.command_answers.specs.Ingested.{FileOutcome, IsGiven, IsOfNew}
 use Rattle.write_commands.proofs.ContentLemmas.{AreJobsOf as HaveJobs, given_of_names}
-use Rattle.write_commands.proofs.TakeInLemmas.{not_opening}
 use Rattle.upgrade_command.specs.Files.{bare, bares_by, came_by, outcome_by, outcomes_of, text_left}
 use Rattle.upgrade_command.proofs.RecordLemmas.{element_at}
 
@@ -98,7 +97,7 @@ module _ {D : Type 0} where
         let within = slice_get_within js i job at in
         let entry = element_at files i (omega (arith, are.count, within)) in
         let done = element_at js' i (omega (arith, counted, within)) in
-        (outcome_by entry.0 job done.0, there_at files js js' i entry.0 job done.0 entry.1 at done.1, inl (refl, not_opening done.0.outcome.cause));
+        (outcome_by entry.0 job done.0, there_at files js js' i entry.0 job done.0 entry.1 at done.1, inl (refl, refl));
   }
 
 -- ---- the entries of the new files

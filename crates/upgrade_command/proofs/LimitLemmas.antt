@@ -36,7 +36,6 @@ use Rattle.command_answers.specs.Upgrading.{HasLimitCause, texts_read}
 use Rattle.write_commands.specs.Jobs.{of_cause}
 use Rattle.write_commands.proofs.ContentLemmas.{AreJobsOf as HaveJobs, given_of_names}
 use Rattle.write_commands.proofs.FitLemmas.{fit_of_job}
-use Rattle.write_commands.proofs.TakeInLemmas.{not_opening}
 use Rattle.upgrade_command.specs.Files.{came_by, outcome_by, text_left}
 use Rattle.upgrade_command.proofs.CameLemmas.{came_at, there_at}
 
@@ -162,7 +161,7 @@ module _ {D E : Type 0} {e : DiskGhosts E} (mid : Journal E e) (told : is_some (
       let as_many : met_by rows met.2.outcome ≡ c.messages + unsealed_of rows c.refusal = ap (λ n. met.2.outcome.messages + n) (sym (unsealed_same rows met.2.outcome.cause)) in (
         c,
         among_first came n met.0 c old.0 (there_at files js js' met.0 file.0 met.1 met.2 file.1 old.1 done.1),
-        (not_opening met.2.outcome.cause, subst (λ k. IsAmongFirst mid.header.version (in_source text_left met.1.source) k m) as_many met.5),
+        (refl, subst (λ k. IsAmongFirst mid.header.version (in_source text_left met.1.source) k m) as_many met.5),
       )
 
   text_met : (n : ℕ) (book : Which) (t : List ℕ) → Contains (book_texts book (told_entries (state_of mid))) t ⊎ IsMetBy text_left (plan_of rows mid) n js js' book t

@@ -1,5 +1,5 @@
 -- What is printed of the files, one after the other.
-use Rattle.std.proofs.Common.{◌≡◌, ◌+◌, ◌<◌, ◌≤◌, inl, inr, refl, sym, ap, ap₂, subst, ◌∙◌, ℕ, zero, suc, List, [], ◌∷◌, ◌++◌, length, map, take, get_or, Option, Some, None, Result, Err, arith}
+use Rattle.std.proofs.Common.{◌≡◌, ◌+◌, ◌<◌, ◌≤◌, inl, inr, refl, sym, ap, ap₂, subst, ◌∙◌, ℕ, zero, suc, true, List, [], ◌∷◌, ◌++◌, length, map, take, get_or, Option, Some, None, Result, Err, arith}
 use Rattle.std.specs.Prelude.{option_map}
 use Rattle.std.specs.List.{flat_map}
 use Rattle.std.proofs.Math.Seq.{take-suc}
@@ -42,7 +42,7 @@ pub bares_more : (files : List FileEntry) (os : List Outcome) (place : ℕ) (f :
     → one.refusal ≡ option_map of_cause (get_or os place o).cause → map bare_of more ≡ bares_by files (take (place + 1) os)
 bares_more files os place f o told more one within few before pushed name messages whole refusal =
     let next : place + 1 ≡ suc place = omega arith in
-    let is : bare_of one ≡ bare_by (get_or files place f) (get_or os place o) = λ i. record { name = name i; log = None; messages = messages i; whole = whole i; refusal = refusal i } in
+    let is : bare_of one ≡ bare_by (get_or files place f) (get_or os place o) = λ i. record { name = name i; log = None; opened = true; messages = messages i; whole = whole i; refusal = refusal i } in
     ap (map bare_of) pushed
     ∙ (map-append bare_of told (one ∷ [])
     ∙ (ap₂ (λ (cs : List FileOutcome) (c : FileOutcome). cs ++ c ∷ []) before is

@@ -1,5 +1,5 @@
 -- What came of the files of an archive, by their jobs.
-use Rattle.std.specs.Prelude.{ℕ, List, [], ◌∷◌, map, Option, None, option_map, Result, Ok, Err}
+use Rattle.std.specs.Prelude.{ℕ, true, List, [], ◌∷◌, map, Option, None, option_map, Result, Ok, Err}
 use Rattle.archive_open.specs.declared.files.FileEntry.{FileEntry}
 use Rattle.archive_text.specs.State.{StoredState}
 use Rattle.archive_text.specs.declared.cause.TextCause.{TextCause}
@@ -23,16 +23,17 @@ text_faults t = t.faults
 
 -- what came of a file as it is printed, where nothing is told of its bytes
 abbrev pub bare_of : NewFile → FileOutcome
-bare_of f = record { name = f.name.now; log = None; messages = f.messages; whole = f.whole; refusal = f.refusal }
+bare_of f = record { name = f.name.now; log = None; opened = true; messages = f.messages; whole = f.whole; refusal = f.refusal }
 
 abbrev pub bare : FileOutcome → FileOutcome
-bare c = record { name = c.name; log = None; messages = c.messages; whole = c.whole; refusal = c.refusal }
+bare c = record { name = c.name; log = None; opened = c.opened; messages = c.messages; whole = c.whole; refusal = c.refusal }
 
 -- what came of a file of an archive, by its job before and after it was done
 abbrev pub outcome_by : {D : Type 0} → FileEntry → Job (StoredState D) → Job (StoredState D) → FileOutcome
 outcome_by f old done = record {
   name = f.name;
   log = in_source text_left old.source;
+  opened = true;
   messages = done.outcome.messages;
   whole = done.outcome.whole;
   refusal = option_map of_cause done.outcome.cause;
@@ -47,7 +48,7 @@ came_by (f ∷ fs) (j ∷ js) (k ∷ ks) = outcome_by f j k ∷ came_by fs js ks
 
 -- the same as it is printed, by what came of its job
 abbrev pub bare_by : FileEntry → Outcome → FileOutcome
-bare_by f o = record { name = f.name; log = None; messages = o.messages; whole = o.whole; refusal = option_map of_cause o.cause }
+bare_by f o = record { name = f.name; log = None; opened = true; messages = o.messages; whole = o.whole; refusal = option_map of_cause o.cause }
 
 abbrev pub bares_by : List FileEntry → List Outcome → List FileOutcome
 bares_by [] os = []

@@ -18,6 +18,7 @@ use Rattle.command_answers.specs.Known.{KnownArchive, are_of, over}
 use Rattle.command_answers.specs.Names.{RefusesNames}
 use Rattle.write_commands.specs.StepsKnown.{told_lawful}
 use Rattle.write_commands.proofs.CauseLemmas.{names_cause}
+use Rattle.write_commands.proofs.LentLemmas.{names_damage}
 use Rattle.write_commands.proofs.NameLemmas.{one_refusal}
 use Rattle.write_commands.proofs.StepsLemmas.{same_nothing}
 
@@ -44,6 +45,7 @@ module _ (known : Option KnownArchive) (workers rows : ℕ) (items : List Item) 
   names_refused refusal refused soon = record {
     names_first = λ other is. inl (subst (λ (r : AddRefusal). RefusesAtOnce seen d d status (of_add r)) (one_refusal names refusal other refused is) (at_once (of_add refusal) soon));
     ends = inl (refused_soon refusal soon (names_cause names told told refusal refused));
+    damaged = names_damage names d d refusal refused;
   }
 
   -- there was no memory
@@ -51,6 +53,7 @@ module _ (known : Option KnownArchive) (workers rows : ℕ) (items : List Item) 
   memory_ended soon = record {
     names_first = λ refusal refused. inr (at_once (of_add AddRefusal.OutOfMemory) soon);
     ends = inl (refused_soon AddRefusal.OutOfMemory soon tt);
+    damaged = tt;
   }
 
   -- nor was there for the pattern, which is one

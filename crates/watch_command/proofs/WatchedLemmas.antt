@@ -2,15 +2,12 @@
 use Rattle.std.proofs.Common.{◌≡◌, ◌≢◌, ◌≤◌, refl, sym, ap, subst, ◌∙◌, ℕ, true, List, [], length, take, drop, Option, None, Some, arith}
 use Rattle.std.specs.Prelude.{IfSome, IsNone, is_some, option_map}
 use Rattle.std.proofs.lemmas.List.{take_all}
-use Rattle.log_seams.specs.declared.disk.Disk.{Ghosts as DiskGhosts}
 use Rattle.log_seams.specs.Disk.{DiskState, IsLawful, KeepsBytes, Rests}
 use Rattle.log_seams.specs.Outside.{Rose}
 use Rattle.log_seams.proofs.MomentLemmas.{keeps_on, rose}
 use Rattle.record_format.specs.declared.header.Header.{Header}
 use Rattle.wild_match.specs.declared.pattern.Item.{Item}
-use Rattle.disk_journal.specs.Journal.{state_of}
 use Rattle.disk_journal.specs.State.{JournalState}
-use Rattle.disk_journal.specs.declared.journal.Journal.{Journal}
 use Rattle.archive_meaning.specs.declared.entry.JournalEntry.{JournalEntry}
 use Rattle.archive_meaning.specs.Stands.{StandsFor}
 use Rattle.archive_core.specs.declared.books.Books.{Books}
@@ -19,7 +16,6 @@ use Rattle.archive_open.specs.Shown.{Opens, Shown}
 use Rattle.disk_seal.specs.Beside.{StandsOn}
 use Rattle.disk_seal.specs.Opening.{MayOpen}
 use Rattle.disk_seal.specs.Told.{IfTold}
-use Rattle.ingest_workers.specs.Beside.{MayBeginWith}
 use Rattle.ingest_workers.specs.Ingested.{told_entries}
 use Rattle.live_search.specs.Reader.{LiveStands, LiveView, has_halted, live_follower}
 use Rattle.live_search.specs.declared.fixed.LiveFixed.{LiveFixed}
@@ -29,11 +25,12 @@ use Rattle.command_refusals.specs.GoesOn.{DiskGoesOn}
 use Rattle.command_refusals.specs.declared.outcome.ReadRefusal.{ReadRefusal}
 use Rattle.command_answers.specs.Ingested.{FileOutcome, FromArchive}
 use Rattle.command_answers.specs.Watching.{HasReaderCause}
-use Rattle.write_commands.specs.Followed.{Follows, IsLed}
+use Rattle.write_commands.specs.Followed.{Follows, IsLed, MayBeginAt}
 use Rattle.write_commands.proofs.AppendLemmas.{held_only, held_stands}
 use Rattle.write_commands.proofs.FollowLemmas.{follows_looked}
 use Rattle.write_commands.proofs.HeldLemmas.{looked_goes}
 use Rattle.write_commands.proofs.LeavesLemmas.{counted}
+use Rattle.write_commands.proofs.LentLemmas.{keeps_twice}
 use Rattle.write_commands.proofs.StepsLemmas.{Looked, same_bytes}
 use Rattle.watch_command.specs.StepsWatched.{WasWatched, from_live}
 use Rattle.watch_command.proofs.LiveLemmas.{led_prints}
@@ -81,18 +78,25 @@ module _ (old mid late end : DiskState) (twice : OpenedTwice old mid late end) w
     counts = omega (arith, twice.first_counts, twice.begun_counts, twice.counts);
   }
 
+  -- nothing was written up to there
+  pub keeps_late : KeepsBytes old late
+  keeps_late = keeps_twice old mid late twice.law_old twice.first twice.begun
+
+  pub keeps_end : KeepsBytes old end
+  keeps_end = keeps_on old late end keeps_late twice.rests
+
   pub twice_goes : DiskGoesOn old end
   twice_goes = looked_goes old mid end looked_end twice.first_counts (omega (arith, twice.begun_counts, twice.counts))
 
 -- ---- it may begin
 
-module _ {K D : Type 0} {d : DiskGhosts D} (written : K → Option (List ℕ)) (w : LiveView K) (j : Journal D d) (may : MayOpen (state_of j)) where
+module _ {K : Type 0} (written : K → Option (List ℕ)) (w : LiveView K) (j : JournalState) (may : MayOpen j) where
   -- what was opened of the journal's bytes is the journal's, and the reader stands behind it
-  pub may_begin : (a : Shown) → Opens (state_of j).disk.seen a → a.entries ≡ j.count → w.reached.first ≡ a.entries → w.reached.handled ≡ 0 → w.refusal ≡ None
-      → ((bytes : List ℕ) → Opens (Some bytes) a → (h : Header) (es : List JournalEntry) → StandsFor bytes h es → LiveStands written w h es []) → MayBeginWith (live_follower written w) j
+  pub may_begin : (a : Shown) → Opens j.disk.seen a → a.entries ≡ j.count → w.reached.first ≡ a.entries → w.reached.handled ≡ 0 → w.refusal ≡ None
+      → ((bytes : List ℕ) → Opens (Some bytes) a → (h : Header) (es : List JournalEntry) → StandsFor bytes h es → LiveStands written w h es []) → MayBeginAt (live_follower written w) j
   may_begin a opens all first handled runs stands = record {
     within = omega (arith, all, first, handled);
-    stands = go (state_of j).disk.seen refl;
+    stands = go j.disk.seen refl;
     running = ap has_halted runs;
   }
     where
@@ -106,12 +110,12 @@ module _ {K D : Type 0} {d : DiskGhosts D} (written : K → Option (List ℕ)) (
             stands = subst (λ (l : List JournalEntry). LiveStands written w j.header l (take w.reached.handled (drop w.reached.first es))) (sym one) (subst (λ (l : List JournalEntry). LiveStands written w j.header es l) (sym two) is);
           }
 
-      go : (told : Option (List ℕ)) → (state_of j).disk.seen ≡ told → IfTold (is_some (state_of j).disk.seen) (StandsOn (live_follower written w) j.header (told_entries (state_of j)))
-      go None is = subst (λ b. IfTold b (StandsOn (live_follower written w) j.header (told_entries (state_of j)))) (sym (ap is_some is)) tt
+      go : (told : Option (List ℕ)) → j.disk.seen ≡ told → IfTold (is_some j.disk.seen) (StandsOn (live_follower written w) j.header (told_entries j))
+      go None is = subst (λ b. IfTold b (StandsOn (live_follower written w) j.header (told_entries j))) (sym (ap is_some is)) tt
       go (Some bytes) is =
-          subst (λ b. IfTold b (StandsOn (live_follower written w) j.header (told_entries (state_of j)))) (sym (ap is_some is))
-          (on (told_entries (state_of j)) (counted (state_of j).disk.seen j.count (ap is_some is))
-          (stands bytes (subst (λ t. Opens t a) is opens) j.header (told_entries (state_of j)) (held_stands (state_of j) may bytes is)))
+          subst (λ b. IfTold b (StandsOn (live_follower written w) j.header (told_entries j))) (sym (ap is_some is))
+          (on (told_entries j) (counted j.disk.seen j.count (ap is_some is))
+          (stands bytes (subst (λ t. Opens t a) is opens) j.header (told_entries j) (held_stands j may bytes is)))
 
 -- ---- how it ended
 

@@ -1,5 +1,5 @@
 -- The steps of an ingest that is watched.
-use Rattle.std.specs.Prelude.{◌≡◌, ◌≢◌, ◌⊎◌, ℕ, Bool, List, ◌∷◌, map, Option, Some, is_some, IfSome, IsTrue}
+use Rattle.std.specs.Prelude.{◌≡◌, ◌≢◌, ◌⊎◌, ℕ, List, ◌∷◌, map, Option, Some}
 use Rattle.log_seams.specs.Disk.{DiskState}
 use Rattle.record_format.specs.declared.header.Header.{Header}
 use Rattle.wild_match.specs.declared.pattern.Item.{Item}
@@ -12,7 +12,6 @@ use Rattle.file_lines.specs.Directory.{directory_from}
 use Rattle.command_refusals.specs.Outside.{Outside}
 use Rattle.command_refusals.specs.Ending.{RoseIn, Stayed, TookNothing}
 use Rattle.command_refusals.specs.Outcome.{answer_of, of_read}
-use Rattle.command_refusals.specs.Reading.{IsArchive}
 use Rattle.command_refusals.specs.declared.outcome.ReadRefusal.{ReadRefusal}
 use Rattle.command_answers.specs.Ingested.{FileOutcome, FromArchive, Logs, TakesIn, line_of_came}
 use Rattle.command_answers.specs.Watching.{HasReaderCause, TellsCut, TellsFiles, TellsLive}
@@ -51,12 +50,6 @@ pub record AddsWatched (content : List ℕ → Option (List ℕ)) (logs : Logs) 
   pub adds : AddsNewLogs content logs asked w.first reports old new
   pub watched : WasWatched asked.segment items (names_asked asked) (map (came_of content) reports) (answer_of w.reader) out counts
       old new
-
--- The disk that is lent is the borrow of this name, tells its bytes or does not, and is an archive where they are to be told.
-pub record IsLentDisk (name : ℕ) (told tells : Bool) (borrow : ℕ) (d : DiskState) : Type 0 where
-  pub name_is : borrow ≡ name
-  pub told_is : is_some d.seen ≡ told
-  pub archive : IsTrue tells → IfSome d.seen IsArchive
 
 -- What came of each file is printed, behind a reader that ended so; nothing is where a write of it failed.
 abbrev pub PrintsRest : Option ReadRefusal → List FileOutcome → ℕ → Outside → ℕ → Type 0

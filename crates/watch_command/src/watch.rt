@@ -1,15 +1,17 @@
 //! The command.
-ghost use Rattle.std.specs.Prelude.{◌≡◌, ◌≤◌, ℕ, List, length, map, IfErr, IfOk, OnErr};
+ghost use Rattle.std.specs.Prelude.{◌≡◌, ◌≤◌, ℕ, List, length, map, IfErr, IfOk, IfSome, IsTrue, OnErr};
 ghost use Rattle.log_sources.specs.Sources.{str_bytes};
 ghost use Rattle.ingest_fork.specs.declared.works.TheConstants.{MAX_WORKERS};
 ghost use Rattle.command_refusals.specs.GoesOn.{DiskGoesOn, OutsideGoesOn};
 ghost use Rattle.command_refusals.specs.Outside.{around};
+ghost use Rattle.command_refusals.specs.Reading.{IsArchive};
 ghost use Rattle.command_answers.specs.Answers.{AnswersGoodWatch, AnswersWatch};
+ghost use Rattle.command_answers.specs.Ingested.{TellsDamage};
 ghost use Rattle.command_answers.specs.Known.{over, told_if};
 ghost use Rattle.write_commands.specs.StepsAdding.{HasRoomFor, MayAdd, RefusesNewLogs, ShelfGoesOn};
 ghost use Rattle.write_commands.specs.StepsCauses.{logs_around};
 ghost use Rattle.watch_command.specs.Extended.{TookMore};
-ghost use Rattle.watch_command.specs.StepsWatched.{AddsWatched, IsLentDisk};
+ghost use Rattle.watch_command.specs.StepsWatched.{AddsWatched};
 
 use crate::adding::{Watched, add_watched};
 use crate::extended::{Extended, LentOut};
@@ -22,21 +24,12 @@ use std::marker::{Brand, PhantomData};
 use std::sync::Wait;
 use std::thread::Threads;
 use wild_match::{Pattern, read_pattern};
-use write_commands::{Base, FileReport, Founded, Lent, NewLogs, refuse_names};
+use write_commands::{Base, FileReport, Lent, NewLogs, refuse_names};
 
-/// What is given back of what was lent, and what came of the logs.
-#[derive(Drop)]
-struct Returned<'d, 'o, D, K> {
-    answer: Result<Watched, AddRefusal>,
-    disk: &'d mut D,
-    out: &'o mut K,
-}
-
-/// Adds the logs with a reader beside, over a disk that is lent, which is an archive where its bytes are
-/// to be told, and an output that is lent. Gives both back.
+/// Adds the logs with a reader beside, over a disk that is an archive where its bytes are to be told, and
+/// an output that is lent. Gives the output back.
 fn add_lent<
     'a,
-    'd,
     'o,
     R: Threads + Wait + Sync,
     H: Shelf,
@@ -50,56 +43,51 @@ fn add_lent<
     asked: NewLogs<'a>,
     pattern: Pattern,
     shelf: &mut H,
-    disk: &'d mut D,
+    disk: &mut D,
     out: &'o mut K,
     taken: &mut Vec<FileReport<'a>>,
-) -> Returned<'d, 'o, D, K>
+) -> (Result<Watched, AddRefusal>, &'o mut K)
 where
     H::Src: Send,
     requires asked { MayAdd asked }
     requires room { HasRoomFor asked taken.old }
-    requires lent { IsLentDisk L.name L.told L.tells disk.ghost_name (D.state disk.old) }
+    requires archive { IsTrue L.tells → IfSome (D.state disk.old).seen IsArchive }
     requires lent_out { (out.ghost_name ≡ O.name) × (K.written out.old ≡ O.had) }
 
     // by the answer
-    ensures added { IfOk result.answer (λ w. AddsWatched (H.content shelf.old)
-        (logs_around H.open_faults H.read_faults shelf.old shelf.new)
+    ensures added { IfOk result.0 (λ w. AddsWatched (H.content shelf.old)
+        (logs_around H.unread H.open_faults H.read_faults shelf.old shelf.new)
         asked.entry pattern w taken.new.items
-        (K.written out.old, K.written result.out.now) (K.faults out.old, K.faults result.out.now)
-        (told_if L.tells (D.state disk.old)) (told_if L.tells (D.state result.disk.now))) }
-    ensures refused { IfErr result.answer (RefusesNewLogs asked.entry
-        (told_if L.tells (D.state disk.old)) (told_if L.tells (D.state result.disk.now))) }
-    ensures rests { OnErr result.answer (result.out.now ≡ out.old) }
+        (K.written out.old, K.written result.1.now) (K.faults out.old, K.faults result.1.now)
+        (told_if L.tells (D.state disk.old)) (told_if L.tells (D.state disk.new))) }
+    ensures refused { IfErr result.0 (RefusesNewLogs asked.entry
+        (told_if L.tells (D.state disk.old)) (told_if L.tells (D.state disk.new))) }
+    ensures damaged { IfErr result.0 (TellsDamage (D.state disk.old) (D.state disk.new)) }
+    ensures rests { OnErr result.0 (result.1.now ≡ out.old) }
 
     // what stays
-    ensures back { (result.disk.ghost_name ≡ disk.entry.ghost_name)
-        × (result.out.ghost_name ≡ out.entry.ghost_name) }
-    ensures goes_on { DiskGoesOn (D.state disk.old) (D.state result.disk.now) }
+    ensures back { result.1.ghost_name ≡ out.entry.ghost_name }
+    ensures goes_on { DiskGoesOn (D.state disk.old) (D.state disk.new) }
     ensures logs { ShelfGoesOn H.content H.open_faults H.read_faults shelf.old shelf.new }
-    ensures more { TookMore (K.written out.old, K.written result.out.now)
-        (K.faults out.old, K.faults result.out.now) }
+    ensures more { TookMore (K.written out.old, K.written result.1.now)
+        (K.faults out.old, K.faults result.1.now) }
 {
-    let mut founded = Founded::<'d, D, L> {
-        disk,
-        lent: PhantomData,
-    };
     let mut extended = Extended::<'o, K, O> {
         out,
         lent: PhantomData,
     };
-    let answer = add_watched(
+    let answer = add_watched::<R, H, D, Extended<'o, K, O>, L>(
         rt,
         alloc,
         asked,
         pattern,
         shelf,
-        &mut founded,
+        disk,
         &mut extended,
         taken,
     );
-    let Founded { disk, .. } = founded;
     let Extended { out, .. } = extended;
-    Returned { answer, disk, out }
+    (answer, out)
 }
 
 /// The same over any disk: what is said of its bytes is said where they are those of the archive that
@@ -121,7 +109,7 @@ where
 
     // by the answer
     ensures added { IfOk result (λ w. AddsWatched (H.content shelf.old)
-        (logs_around H.open_faults H.read_faults shelf.old shelf.new)
+        (logs_around H.unread H.open_faults H.read_faults shelf.old shelf.new)
         asked.entry pattern w taken.new.items
         (K.written out.old, K.written out.new) (K.faults out.old, K.faults out.new)
         (over B.archive (D.state disk.old) (D.state disk.old))
@@ -129,6 +117,7 @@ where
     ensures refused { IfErr result (RefusesNewLogs asked.entry
         (over B.archive (D.state disk.old) (D.state disk.old))
         (over B.archive (D.state disk.old) (D.state disk.new))) }
+    ensures damaged { IfErr result (TellsDamage (D.state disk.old) (D.state disk.new)) }
     ensures rests { OnErr result (out.new ≡ out.old) }
 
     // what stays
@@ -137,11 +126,10 @@ where
     ensures more { TookMore (K.written out.old, K.written out.new)
         (K.faults out.old, K.faults out.new) }
 {
-    // taken apart, it would not be known how the loan of the disk ends
-    let returned = add_lent::<R, H, D, K, Brand, Brand>(
+    let (answer, _out) = add_lent::<R, H, D, K, Brand, Brand>(
         rt, alloc, asked, pattern, shelf, disk, out, taken,
     );
-    returned.answer
+    answer
 }
 
 /// The same for a pattern that was read. Tells what came of each log.

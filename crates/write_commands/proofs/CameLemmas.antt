@@ -9,7 +9,7 @@ use Rattle.sink_pieces.specs.Output.{Grew, GrewByFront}
 use Rattle.command_refusals.specs.Outside.{Outside}
 use Rattle.file_lines.specs.Directory.{FileLine, directory_from}
 use Rattle.command_refusals.specs.Ending.{EndsWithoutMemory, RoseIn, SaysIn, Stayed, TookNothing}
-use Rattle.command_answers.specs.Ingested.{EndsIngest, FileOutcome, FromArchive, HasCallCause, PrintsCame, TakesFiles, TakesIn, TakesNothing, line_of_came, logs_of}
+use Rattle.command_answers.specs.Ingested.{EndsIngest, FileOutcome, FromArchive, HasCallCause, IfRefused, PrintsCame, TakesFiles, TakesIn, TakesNothing, line_of_came, logs_of}
 use Rattle.write_commands.specs.IngestPrints.{came_of, names_of}
 use Rattle.write_commands.specs.StepsCauses.{HaveFileCauses}
 use Rattle.command_refusals.specs.Reading.{OverJournal}
@@ -21,7 +21,7 @@ use Rattle.command_refusals.specs.Outcome.{of_add}
 use Rattle.command_refusals.specs.declared.refusal.Refusal.TheVariants.{SinkFault}
 use Rattle.write_commands.specs.declared.file_report.FileReport.{FileReport}
 use Rattle.write_commands.proofs.FittingLemmas.{all_fit}
-use Rattle.write_commands.proofs.WholeLemmas.{file_causes, full_in_turn}
+use Rattle.write_commands.proofs.WholeLemmas.{cut_short, file_causes, full_in_turn}
 
 module _ (content : List ℕ → Option (List ℕ)) where
   pub names_came : (files : List FileReport) → map (λ (c : FileOutcome). c.name) (map (came_of content) files) ≡ names_of files
@@ -45,11 +45,15 @@ module _ (content : List ℕ → Option (List ℕ)) where
   errors_came [] = refl
   errors_came (file ∷ files) = ap (λ text. error_of file ++ text) (errors_came files)
 
+-- it ends so, and where it was refused this holds of the refusal
+abbrev EndsSo : (AddRefusal → Type 0) → ℕ → ℕ → List (List ℕ) → Outside → DiskState → DiskState → ℕ → Type 0
+EndsSo P workers rows names seen old new status = (ends : EndsIngest workers rows names seen old new status) × IfRefused P ends
+
 -- the call was refused as a whole
-pub refused_all : (workers rows : ℕ) (names : List (List ℕ)) (seen : Outside) (old new : DiskState) (status : ℕ) (refusal : AddRefusal) → status ≡ status_of (of_add refusal) → SaysIn seen (line_of [] (of_add refusal)) → TookNothing seen.out → Stayed seen.out_faults
-    → HasCallCause names old new refusal → FromArchive old (λ h before bytes stood. TakesNothing h before old new) → EndsIngest workers rows names seen old new status
-refused_all workers rows names seen old new status refusal is said nothing sink cause disk =
-    inl (record { refusal = refusal; ends = record { status_is = is; said = said }; nothing = nothing; sink = sink; cause = cause; disk = disk })
+pub refused_all : (P : AddRefusal → Type 0) (workers rows : ℕ) (names : List (List ℕ)) (seen : Outside) (old new : DiskState) (status : ℕ) (refusal : AddRefusal) → status ≡ status_of (of_add refusal) → SaysIn seen (line_of [] (of_add refusal)) → TookNothing seen.out → Stayed seen.out_faults
+    → HasCallCause names old new refusal → FromArchive old (λ h before bytes stood. TakesNothing h before old new) → P refusal → EndsSo P workers rows names seen old new status
+refused_all P workers rows names seen old new status refusal is said nothing sink cause disk holds =
+    (inl (record { refusal = refusal; ends = record { status_is = is; said = said }; nothing = nothing; sink = sink; cause = cause; disk = disk }), holds)
 
 module _ (one : OneListOfParts) (workers rows : ℕ) (names : List (List ℕ)) (seen : Outside) (old new : DiskState) (tells : is_some new.seen ≡ is_some old.seen) (first : ℕ) (files : List FileReport) (named : names_of files ≡ names)
     (numbered : OverJournal old.seen (λ journal. first ≡ length journal.names)) (disk : FromArchive old (λ h before bytes stood. TakesIn rows h before stood names (map (came_of seen.content) files) old new)) (caused : HaveFileCauses (logs_of seen) workers rows old new (map (came_of seen.content) files)) where
@@ -58,6 +62,7 @@ module _ (one : OneListOfParts) (workers rows : ℕ) (names : List (List ℕ)) (
   takes_came = record {
     adds = record { came = map (came_of seen.content) files; first = first; names_are = names_came seen.content files ∙ named; logs = logs_came seen.content files; numbered = numbered; disk = disk };
     each = file_causes workers rows seen old new (map (came_of seen.content) files) caused;
+    cut = cut_short workers rows seen old new (map (came_of seen.content) files) caused;
     in_turn = full_in_turn workers rows seen old new (map (came_of seen.content) files) caused;
     fits = all_fit rows one names (map (came_of seen.content) files) old new tells disk;
   }
@@ -68,13 +73,13 @@ module _ (one : OneListOfParts) (workers rows : ℕ) (names : List (List ℕ)) (
   takes_with P holds = (takes_came, holds)
 
   -- it is printed
-  printed_came : (status : ℕ) → PrintsCame (map (came_of seen.content) files) first seen status → EndsIngest workers rows names seen old new status
-  printed_came status printed = inr (takes_with (λ came n. PrintsCame came n seen status) printed)
+  printed_came : (P : AddRefusal → Type 0) (status : ℕ) → PrintsCame (map (came_of seen.content) files) first seen status → EndsSo P workers rows names seen old new status
+  printed_came P status printed = (inr (takes_with (λ came n. PrintsCame came n seen status) printed), tt)
 
   -- all lines were printed
-  pub printed_all : (status : ℕ) (told : List FileReport) → told ≡ files → Grew seen.out.0 seen.out.1 (directory_from first (map line_of_taken files)) → status ≡ status_of_taken told → SaysIn seen (flat_map error_of told) → Stayed seen.out_faults
-      → EndsIngest workers rows names seen old new status
-  printed_all status told same grew is said sink = printed_came status (inl (
+  pub printed_all : (P : AddRefusal → Type 0) (status : ℕ) (told : List FileReport) → told ≡ files → Grew seen.out.0 seen.out.1 (directory_from first (map line_of_taken files)) → status ≡ status_of_taken told → SaysIn seen (flat_map error_of told) → Stayed seen.out_faults
+      → EndsSo P workers rows names seen old new status
+  printed_all P status told same grew is said sink = printed_came P status (inl (
     is ∙ (ap status_of_taken same ∙ ap gravest (statuses_came seen.content files)),
     subst (λ (ls : List FileLine). Grew seen.out.0 seen.out.1 (directory_from first ls)) (lines_came seen.content files) grew,
     subst (λ text. SaysIn seen text) (ap (λ (fs : List FileReport). flat_map error_of fs) same ∙ errors_came seen.content files) said,
@@ -85,9 +90,9 @@ module _ (one : OneListOfParts) (workers rows : ℕ) (names : List (List ℕ)) (
   front_came grew = subst (λ (ls : List FileLine). GrewByFront seen.out.0 seen.out.1 (directory_from first ls)) (lines_came seen.content files) grew
 
   -- the output failed
-  pub printed_some : (status : ℕ) → GrewByFront seen.out.0 seen.out.1 (directory_from first (map line_of_taken files)) → status ≡ status_of SinkFault → SaysIn seen (line_of [] SinkFault) → RoseIn seen.out_faults → EndsIngest workers rows names seen old new status
-  printed_some status grew is said rose = printed_came status (inr (inl (record { status_is = is; said = said }, front_came grew, rose)))
+  pub printed_some : (P : AddRefusal → Type 0) (status : ℕ) → GrewByFront seen.out.0 seen.out.1 (directory_from first (map line_of_taken files)) → status ≡ status_of SinkFault → SaysIn seen (line_of [] SinkFault) → RoseIn seen.out_faults → EndsSo P workers rows names seen old new status
+  printed_some P status grew is said rose = printed_came P status (inr (inl (record { status_is = is; said = said }, front_came grew, rose)))
 
   -- there was no memory for the lines
-  pub printed_short : (status : ℕ) → GrewByFront seen.out.0 seen.out.1 (directory_from first (map line_of_taken files)) → EndsWithoutMemory seen status → Stayed seen.out_faults → EndsIngest workers rows names seen old new status
-  printed_short status grew ends sink = printed_came status (inr (inr (ends, front_came grew, sink)))
+  pub printed_short : (P : AddRefusal → Type 0) (status : ℕ) → GrewByFront seen.out.0 seen.out.1 (directory_from first (map line_of_taken files)) → EndsWithoutMemory seen status → Stayed seen.out_faults → EndsSo P workers rows names seen old new status
+  printed_short P status grew ends sink = printed_came P status (inr (inr (ends, front_came grew, sink)))

@@ -28,6 +28,7 @@ use Rattle.command_refusals.specs.declared.outcome.AddRefusal.{AddRefusal}
 use Rattle.write_commands.specs.declared.ingest.NewLogs.{NewLogs}
 use Rattle.write_commands.specs.StepsAdding.{RefusesNewLogs, names_asked}
 use Rattle.write_commands.specs.Naming.{IsHeldBy}
+use Rattle.write_commands.specs.StepsKnown.{IsNoDamage}
 use Rattle.write_commands.proofs.RegisterLemmas.{held_same}
 use Rattle.write_commands.proofs.LeavesLemmas.{from_archive, of_told, opened_as}
 use Rattle.write_commands.proofs.StepsLemmas.{Looked, no_more, same_bytes}
@@ -90,6 +91,14 @@ register_cause names j new types words held of few result (RegisterRefusal.Archi
           past = subst (λ (x : Header). x.length_limit < end + need) opened.0 past.past;
           few = omega (arith, few, holds_told j types words held of bytes told h before stood);
         }
+
+pub register_undamaged : (r : RegisterRefusal) → IsNoDamage (add_from_register r)
+register_undamaged RegisterRefusal.OutOfMemory = tt
+register_undamaged RegisterRefusal.DiskFault = tt
+register_undamaged (RegisterRefusal.ArchiveFull end need) = tt
+
+pub undamaged_with : {A : Type 0} (result : Result A AddRefusal) (r r' : AddRefusal) → result ≡ Err r → r ≡ r' → IsNoDamage r' → IfErr result IsNoDamage
+undamaged_with {A} result r r' is same none = subst (λ (x : Result A AddRefusal). IfErr x IsNoDamage) (sym is) (subst IsNoDamage (sym same) none)
 
 -- the answer of the call
 pub refused_with : {A : Type 0} (names : List (List ℕ)) (old new : DiskState) (result : Result A AddRefusal) (r r' : AddRefusal) → result ≡ Err r → r ≡ r' → HasCallCause names old new r' → IfErr result (HasCallCause names old new)

@@ -33,7 +33,7 @@ use Rattle.message_reader.specs.Taken.{IsBeforeLong, IsReadShort}
 use Rattle.ingest_workers.specs.Ingested.{AreRefused, HadNoRoomOver, HasItsCause, HasStored, HaveCauses, IsAsItWas, IsFullByGiven as IsFullByJobs, IsThereOrGiven as IsThereOrGivenByJobs, WereGiven as WereGivenByJobs, grounds_over, not_begun, plan_of, told_entries}
 use Rattle.ingest_workers.specs.Outcome.{nothing_done}
 use Rattle.write_commands.specs.IngestPrints.{came_of}
-use Rattle.command_answers.specs.Ingested.{FileOutcome, HasEnded, HasMoreThan, IsNextTooLong, IsStoppedBy, IsThereOrGiven, Logs, WasCutShort}
+use Rattle.command_answers.specs.Ingested.{FileOutcome, HasEnded, HasMoreThan, IsNextTooLong, IsStoppedBy, IsThereOrGiven, Logs, WasNotOpened}
 use Rattle.write_commands.specs.Jobs.{DidJobs, IsNotBegun, of_cause, of_opening, refusal_by, sources_of}
 use Rattle.write_commands.specs.StepsCauses.{CameIn, HasCauseIn, Target, into_journal}
 use Rattle.command_refusals.specs.LogLimits.{IsLong, most_messages}
@@ -58,12 +58,12 @@ no_text = refl
 -- ---- one file
 
 module _ (logs : Logs) (into : Target) (old new : DiskState) (c : FileOutcome) where
-  came_in : (r : Option PartCause) → c.refusal ≡ r → HasCauseIn logs into old new c r → (r ≢ None → c.whole ≡ false) → CameIn logs into old new c
-  came_in r is cause part = record { cause = subst (HasCauseIn logs into old new c) (sym is) cause; part = λ some. part (λ none. some (is ∙ none)) }
+  came_in : (r : Option PartCause) → c.refusal ≡ r → HasCauseIn logs into old new c r → (r ≢ None → c.whole ≡ false) → (c.opened ≡ false → WasNotOpened c) → CameIn logs into old new c
+  came_in r is cause part unopened = record { cause = subst (HasCauseIn logs into old new c) (sym is) cause; part = λ some. part (λ none. some (is ∙ none)); unopened = unopened }
 
   -- there was no memory
-  no_memory : c.refusal ≡ Some PartCause.OutOfMemory → c.whole ≡ false → CameIn logs into old new c
-  no_memory is part = came_in (Some PartCause.OutOfMemory) is tt (λ some. part)
+  no_memory : c.refusal ≡ Some PartCause.OutOfMemory → c.whole ≡ false → (c.opened ≡ false → c.messages ≡ 0) → CameIn logs into old new c
+  no_memory is part none = came_in (Some PartCause.OutOfMemory) is tt (λ some. part) (λ shut. (none shut, inr is))
 
 module _ {S : Type 0} (left name : S → Option (List ℕ)) (faults : S → ℕ) (logs : Logs) (opens_now reads reads_now : List ℕ → ℕ) (opens_later : (n : List ℕ) → opens_now n ≤ (logs.opens n).1)
     (reads_sooner : (n : List ℕ) → (logs.reads n).0 ≤ reads n) (reads_later : (n : List ℕ) → reads_now n ≤ (logs.reads n).1) where
@@ -71,9 +71,9 @@ module _ {S : Type 0} (left name : S → Option (List ℕ)) (faults : S → ℕ)
   CameFrom = CameBy left name faults (λ n. (logs.opens n).0) opens_now
 
   -- the log was not opened
-  opening_in : (into : Target) (old new : DiskState) (c : FileOutcome) (cause : OpenRefused) (n : ℕ) → CameFrom c (Unopened cause n) → c.messages ≡ 0 → c.whole ≡ false → c.refusal ≡ Some (of_opening cause) → CameIn logs into old new c
-  opening_in into old new c Failed n came none part is = came_in logs into old new c (Some PartCause.OpenFault) is (rose (logs.opens c.name).0 (logs.opens c.name).0 (opens_now c.name) (logs.opens c.name).1 (omega arith) came.1 (opens_later c.name), none) (λ some. part)
-  opening_in into old new c OutOfMemory n came none part is = no_memory logs into old new c is part
+  opening_in : (into : Target) (old new : DiskState) (c : FileOutcome) (cause : OpenRefused) (n : ℕ) → CameFrom c (Unopened cause n) → c.opened ≡ false → c.messages ≡ 0 → c.whole ≡ false → c.refusal ≡ Some (of_opening cause) → CameIn logs into old new c
+  opening_in into old new c Failed n came shut none part is = came_in logs into old new c (Some PartCause.OpenFault) is (rose (logs.opens c.name).0 (logs.opens c.name).0 (opens_now c.name) (logs.opens c.name).1 (omega arith) came.1 (opens_later c.name), shut) (λ some. part) (λ also. (none, inl is))
+  opening_in into old new c OutOfMemory n came shut none part is = no_memory logs into old new c is part (λ also. none)
 
   -- reads of it failed
   reads_rose : (log : Option (List ℕ)) (asked : List ℕ) (s : S) (t : LogSource S) → IsOpened left name faults log asked s → name_in name t ≡ name s → IsCounted name faults reads reads_now t → Rose (faults s) (faults_in faults t)
@@ -141,8 +141,7 @@ module _ {S : Type 0} (left name : S → Option (List ℕ)) (faults : S → ℕ)
         not_false : (b : Bool) → false ≡ not b → b ≡ true
         not_false true is = refl
         not_false false is = absurd (cc (is))
-    job_cause file log sealed (Some Cause.ReadFault) has fits whole count bytes up =
-        (up has.0, subst (λ (o : Option (List ℕ)). IfSome o (WasCutShort j.header.version c)) bytes (IfSome_then log.bytes has.1 (λ b short. record { taken = sealed; count = count; behind = log.behind; short = short })))
+    job_cause file log sealed (Some Cause.ReadFault) has fits whole count bytes up = up has.0
     job_cause file log sealed (Some (Cause.LineTooLong line)) has fits whole count bytes up = (
       subst (λ (o : Option (List ℕ)). IfSome o (λ b. IsLong b line)) bytes (IfSome_then log.bytes has.2 (λ b before. long_behind j.header.version sealed b line has.1 before)),
       subst (λ (o : Option (List ℕ)). IfSome o (IsNextTooLong j.header.version c line)) bytes (IfSome_then log.bytes has.2 (λ b before. record { taken = sealed; count = count; follows = has.1; before = before })),
@@ -160,16 +159,16 @@ module _ {S : Type 0} (left name : S → Option (List ℕ)) (faults : S → ℕ)
     not_whole (Some cause) false is some = refl
 
     -- the job was done
-    done_in : (s : LogSource S) (old done : Job (LogSource S)) → CameFrom c s → old.source ≡ Some s → old.is_open ≡ is_opened s
+    done_in : (s : LogSource S) (old done : Job (LogSource S)) → CameFrom c s → c.opened ≡ is_opened s → old.source ≡ Some s → old.is_open ≡ is_opened s
         → c.messages ≡ done.outcome.messages → c.whole ≡ done.outcome.whole → c.refusal ≡ refusal_by (refusal_of s) done.outcome.cause
         → HasItsCause full has_texts (left_in left) (name_in name) (faults_in faults) (plan_of rows j) j after old done
         → ((bytes : Option (List ℕ)) → bytes ≡ c.log → (last : List (List ℕ) → Type 0) → (is_some (d.state j.disk.now).seen ≡ true → (taken : List (List ℕ)) → last taken → HasEnded logs came j.header (told_entries (state_of j)) c taken) → (sealed : List (List ℕ)) → c.messages ≡ length sealed → (end need : ℕ) → HadNoRoomOver has_texts (plan_of rows j) old.file bytes j after last sealed end need → CauseIn (Some (PartCause.ArchiveFull end need)))
         → (old.is_open ≡ true → is_some done.outcome.cause ≡ not done.outcome.whole) → (old.is_open ≡ false → done.outcome ≡ nothing_done)
         → ((t : LogSource S) → done.source ≡ Some t → IsCounted name faults reads reads_now t) → In
-    done_in (Unopened cause n) old done came_from has as_opened messages whole refusal its fits opened unopened counted =
+    done_in (Unopened cause n) old done came_from is_open has as_opened messages whole refusal its fits opened unopened counted =
         let none = unopened as_opened in
-        opening_in into (d.state j.disk.now) (d.state after.disk.now) c cause n came_from (messages ∙ ap (λ (o : Outcome). o.messages) none) (whole ∙ ap (λ (o : Outcome). o.whole) none) refusal
-    done_in (Opened s) old done came_from has as_opened messages whole refusal its fits opened unopened counted =
+        opening_in into (d.state j.disk.now) (d.state after.disk.now) c cause n came_from is_open (messages ∙ ap (λ (o : Outcome). o.messages) none) (whole ∙ ap (λ (o : Outcome). o.whole) none) refusal
+    done_in (Opened s) old done came_from is_open has as_opened messages whole refusal its fits opened unopened counted =
         let is : its.source.before ≡ Opened s = some_is its.source.before (Opened s) (sym its.source.had ∙ has) in
         let either : is_some done.outcome.cause ≡ not c.whole = opened as_opened ∙ ap not (sym whole) in
         let log : Log = log_of (left_in left) (faults_in faults) its.source.before its.source.after in
@@ -179,17 +178,17 @@ module _ {S : Type 0} (left name : S → Option (List ℕ)) (faults : S → ℕ)
         came_in logs into (d.state j.disk.now) (d.state after.disk.now) c (option_map of_cause done.outcome.cause) refusal
         (job_cause old.file log its.sealed done.outcome.cause its.cause
         (fits log.bytes bytes (EndsLog (full log.bytes) log j.header.version) (has_ended log bytes up) its.sealed (messages ∙ its.count)) either (messages ∙ its.count) bytes up)
-        (not_whole done.outcome.cause c.whole either)
+        (not_whole done.outcome.cause c.whole either) (λ shut. absurd (cc (shut, is_open)))
       where
         some_is : (x y : LogSource S) → Some x ≡ Some y → x ≡ y
         some_is x y e = cc (e)
 
     -- it was not begun
-    refused_in : (s : LogSource S) (done : Job (LogSource S)) → CameFrom c s → c.messages ≡ done.outcome.messages → c.whole ≡ done.outcome.whole → c.refusal ≡ refusal_by (refusal_of s) done.outcome.cause → done.outcome ≡ not_begun → In
-    refused_in (Unopened cause n) done came_from messages whole refusal none =
-        opening_in into (d.state j.disk.now) (d.state after.disk.now) c cause n came_from (messages ∙ ap (λ (o : Outcome). o.messages) none) (whole ∙ ap (λ (o : Outcome). o.whole) none) refusal
-    refused_in (Opened s) done came_from messages whole refusal none =
-        no_memory logs into (d.state j.disk.now) (d.state after.disk.now) c (refusal ∙ ap (λ (o : Outcome). option_map of_cause o.cause) none) (whole ∙ ap (λ (o : Outcome). o.whole) none)
+    refused_in : (s : LogSource S) (done : Job (LogSource S)) → CameFrom c s → c.opened ≡ is_opened s → c.messages ≡ done.outcome.messages → c.whole ≡ done.outcome.whole → c.refusal ≡ refusal_by (refusal_of s) done.outcome.cause → done.outcome ≡ not_begun → In
+    refused_in (Unopened cause n) done came_from is_open messages whole refusal none =
+        opening_in into (d.state j.disk.now) (d.state after.disk.now) c cause n came_from is_open (messages ∙ ap (λ (o : Outcome). o.messages) none) (whole ∙ ap (λ (o : Outcome). o.whole) none) refusal
+    refused_in (Opened s) done came_from is_open messages whole refusal none =
+        no_memory logs into (d.state j.disk.now) (d.state after.disk.now) c (refusal ∙ ap (λ (o : Outcome). option_map of_cause o.cause) none) (whole ∙ ap (λ (o : Outcome). o.whole) none) (λ shut. absurd (cc (shut, is_open)))
 
   -- ---- all files
 
@@ -214,7 +213,7 @@ module _ {S : Type 0} (left name : S → Option (List ℕ)) (faults : S → ℕ)
         let cause = causes.each i one.old one.at in
         let alike : cause.0 ≡ one.done = some_is cause.0 one.done (sym cause.1 ∙ one.at_done) in
         let its = subst (λ (x : Job (LogSource S)). HasItsCause (IsFullByJobs (left_in left) (plan_of rows j) js j) (WereGivenByJobs (left_in left) (plan_of rows j) js) (left_in left) (name_in name) (faults_in faults) (plan_of rows j) j after one.old x) alike cause.2 in
-        done_in j after came rows first js of c one.source one.old one.done one.came one.has one.opened one.messages one.whole one.refusal its
+        done_in j after came rows first js of c one.source one.old one.done one.came one.is_open one.has one.opened one.messages one.whole one.refusal its
         (fit_of_job (left_in left) logs j after came rows first js of law store stored.left_by i one.old one.at c at)
         (λ given. subst (λ (x : Job (LogSource S)). is_some x.outcome.cause ≡ not x.outcome.whole) same (file.2.cause given one.no_part))
         (subst (λ (x : Job (LogSource S)). one.old.is_open ≡ false → x.outcome ≡ nothing_done) same file.2.unopened)
@@ -226,7 +225,7 @@ module _ {S : Type 0} (left name : S → Option (List ℕ)) (faults : S → ℕ)
     all_refused : IsAsItWas j after → AreRefused js js' → AllIn
     all_refused stayed refused = each_of (CameIn logs (into_journal (state_of j) rows first came) (d.state j.disk.now) (d.state after.disk.now)) came (λ i c at.
         let one = each i c at in
-        refused_in j after came rows first js of c one.source one.done one.came one.messages one.whole one.refusal (refused.each i one.done one.at_done))
+        refused_in j after came rows first js of c one.source one.done one.came one.is_open one.messages one.whole one.refusal (refused.each i one.done one.at_done))
 
     pub all_came : IsLawful (d.state after.disk.now) → (workers : ℕ) → DidJobs (left_in left) (name_in name) (faults_in faults) workers rows j after js js'
         → (given : List (LogSource S)) → map Some given ≡ sources_of js' → All (IsCounted name faults reads reads_now) given → AllIn
@@ -236,4 +235,4 @@ module _ {S : Type 0} (left name : S → Option (List ℕ)) (faults : S → ℕ)
 -- without memory to begin
 pub all_unbegun : (content : List ℕ → Option (List ℕ)) (logs : Logs) (into : Target) (old new : DiskState) (taken : List FileReport) → All IsNotBegun taken → All (CameIn logs into old new) (map (came_of content) taken)
 all_unbegun content logs into old new taken none =
-    All-map (CameIn logs into old new) (came_of content) taken (All-weaker IsNotBegun (λ (file : FileReport). CameIn logs into old new (came_of content file)) (λ file n. no_memory logs into old new (came_of content file) n.refusal n.whole) taken none)
+    All-map (CameIn logs into old new) (came_of content) taken (All-weaker IsNotBegun (λ (file : FileReport). CameIn logs into old new (came_of content file)) (λ file n. no_memory logs into old new (came_of content file) n.refusal n.whole (λ shut. n.messages)) taken none)

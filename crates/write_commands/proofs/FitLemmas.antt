@@ -45,12 +45,12 @@ Begins h front told = IfSome told (λ bytes. (es : Entries) → StandsFor bytes 
 -- ---- as it is told
 
 -- what is told of logs by these
-abbrev Told : (List ℕ → ℕ × ℕ) → (List ℕ → ℕ × ℕ) → Logs
-Told opens reads = record { opens = opens; reads = reads }
+abbrev Told : (List ℕ → Option (List ℕ)) → (List ℕ → ℕ × ℕ) → (List ℕ → ℕ × ℕ) → Logs
+Told unread opens reads = record { opens = opens; reads = reads; unread = unread }
 
-module _ (opens opens' reads : List ℕ → ℕ × ℕ) (rows first : ℕ) (came : List FileOutcome) (h : Header) (named : Entries) (mid new : DiskState) (same : new.seen ≡ mid.seen) (c : FileOutcome) (end need : ℕ) where
+module _ (unread unread' : List ℕ → Option (List ℕ)) (opens opens' reads : List ℕ → ℕ × ℕ) (rows first : ℕ) (came : List FileOutcome) (h : Header) (named : Entries) (mid new : DiskState) (same : new.seen ≡ mid.seen) (c : FileOutcome) (end need : ℕ) where
   -- the disk's bytes are the same later, whatever openings failed
-  pub fit_later : DidNotFit (Told opens reads) rows first came h named mid c end need → DidNotFit (Told opens' reads) rows first came h named new c end need
+  pub fit_later : DidNotFit (Told unread opens reads) rows first came h named mid c end need → DidNotFit (Told unread' opens' reads) rows first came h named new c end need
   fit_later fit = record {
     place = fit.place;
     at = fit.at;
@@ -58,7 +58,7 @@ module _ (opens opens' reads : List ℕ → ℕ × ℕ) (rows first : ℕ) (came
       sealed = fit.room.sealed;
       count = fit.room.count;
       holds = no_room_on h rows h.version (first + fit.place) (StandFirst h named mid) (StandFirst h named new) (WereGiven h.version came) (WereGiven h.version came) (AreFirstOf h.version c.log) (AreFirstOf h.version c.log)
-          (HasEnded (Told opens reads) came h named c) (HasEnded (Told opens' reads) came h named c) fit.room.sealed end need
+          (HasEnded (Told unread opens reads) came h named c) (HasEnded (Told unread' opens' reads) came h named c) fit.room.sealed end need
           (λ es stand. (stand.0, subst (Begins h es) (sym same) stand.1)) (λ es book texts has. has) (λ ms begin. begin) (λ ms ended. ended) fit.room.holds;
     };
   }

@@ -8,7 +8,7 @@ use Rattle.log_seams.specs.declared.disk.Disk.{Ghosts as DiskGhosts}
 use Rattle.log_seams.specs.declared.refusals.OpenRefused.TheVariants.{Failed, OutOfMemory}
 use Rattle.log_sources.specs.declared.source.LogSource.{LogSource}
 use Rattle.log_sources.specs.declared.source.LogSource.TheVariants.{Opened, Unopened}
-use Rattle.log_sources.specs.Sources.{faults_in, left_in, name_in, refusal_of}
+use Rattle.log_sources.specs.Sources.{faults_in, is_opened, left_in, name_in, refusal_of}
 use Rattle.row_codec.specs.declared.namer.Which.{Which}
 use Rattle.row_codec.specs.declared.namer.Which.TheVariants.{Types as WhichTypes, Words as WhichWords}
 use Rattle.message_reader.proofs.VersionLawLemmas.{messages_none}
@@ -35,7 +35,7 @@ use Rattle.command_refusals.specs.declared.outcome.PartCause.{PartCause}
 use Rattle.write_commands.specs.declared.file_report.FileReport.{FileReport}
 use Rattle.write_commands.proofs.ContentLemmas.{AreJobsOf}
 use Rattle.write_commands.proofs.FileCauseLemmas.{at_of}
-use Rattle.write_commands.proofs.TakeInLemmas.{CameBy, CameOfLog, not_opening}
+use Rattle.write_commands.proofs.TakeInLemmas.{CameBy, CameOfLog}
 
 -- ---- the first elements of a list
 
@@ -104,12 +104,12 @@ module _ {S : Type 0} (left name : S → Option (List ℕ)) (faults : S → ℕ)
   stopped c (Unopened OutOfMemory n) cause book count came is = absurd (cc (is))
 
   -- what the job met of its log was met in the file
-  met_in : (rows version : ℕ) (c : FileOutcome) (m : List ℕ) (source : LogSource S) (o : Outcome) → From c source → c.messages ≡ o.messages → c.refusal ≡ refusal_by (refusal_of source) o.cause
+  met_in : (rows version : ℕ) (c : FileOutcome) (m : List ℕ) (source : LogSource S) (o : Outcome) → From c source → c.opened ≡ is_opened source → c.messages ≡ o.messages → c.refusal ≡ refusal_by (refusal_of source) o.cause
       → IsAmongFirst version (left_in left source) (met_by rows o) m → WasMetIn rows version c m
-  met_in rows version c m (Unopened cause n) o came messages refusal met = absurd (none_met version (met_by rows o) m met)
-  met_in rows version c m (Opened s) o came messages refusal met =
+  met_in rows version c m (Unopened cause n) o came opened messages refusal met = absurd (none_met version (met_by rows o) m met)
+  met_in rows version c m (Opened s) o came opened messages refusal met =
       let as_many : met_by rows o ≡ c.messages + unsealed_of rows c.refusal = ap₂ (λ a b. a + b) (sym messages) (sym (ap (unsealed_of rows) refusal ∙ unsealed_same rows o.cause)) in
-      (λ failed. not_opening o.cause (sym refusal ∙ failed), subst (λ (bytes : Option (List ℕ)). IsAmongFirst version bytes (c.messages + unsealed_of rows c.refusal) m) came.left_is (subst (λ n. IsAmongFirst version (left s) n m) as_many met))
+      (opened, subst (λ (bytes : Option (List ℕ)). IsAmongFirst version bytes (c.messages + unsealed_of rows c.refusal) m) came.left_is (subst (λ n. IsAmongFirst version (left s) n m) as_many met))
 
   module _ {D : Type 0} {d : DiskGhosts D} (j : Journal D d) (came : List FileOutcome) (rows first : ℕ) (js js' : List (Job (LogSource S))) (of : AreJobsOf (left_in left) j.header.version came first js)
       (each : (i : ℕ) (c : FileOutcome) → slice_get came i ≡ Some c → CameOfLog From js js' i c) where
@@ -124,7 +124,7 @@ module _ {S : Type 0} (left name : S → Option (List ℕ)) (faults : S → ℕ)
         let outcome : met.2.outcome ≡ log.done.outcome = ap (λ (x : Job (LogSource S)). x.outcome) (some_is met.2 log.done (sym done.1 ∙ log.at_done)) in (
           file.0,
           among_first came n met.0 file.0 old.0 file.1,
-          met_in rows j.header.version file.0 m log.source log.done.outcome log.came log.messages log.refusal
+          met_in rows j.header.version file.0 m log.source log.done.outcome log.came log.is_open log.messages log.refusal
               (subst (λ (o : Outcome). IsAmongFirst j.header.version (left_in left log.source) (met_by rows o) m) outcome
               (subst (λ (o : Option (LogSource S)). IsAmongFirst j.header.version (in_source (left_in left) o) (met_by rows met.2.outcome) m) source met.5)),
         )

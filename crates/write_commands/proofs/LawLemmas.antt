@@ -18,7 +18,7 @@ use Rattle.write_commands.specs.Laws.{IsOfTold, IsReadable, IsUnopenedOrTold, Re
 use Rattle.write_commands.proofs.LineLemmas.{long_behind}
 
 of_told_log : (version : ℕ) (c : FileOutcome) (message : List ℕ) → IsUnopenedOrTold c → IsGivenBy version c message → IsOfTold version c message
-of_told_log version c message (inl unopened) given = absurd (given.0 unopened)
+of_told_log version c message (inl unopened) given = absurd (cc (unopened, given.0))
 of_told_log version c message (inr some) given = go c.log refl some given.1
   where
     go : (told : Option (List ℕ)) → c.log ≡ told → IsSome told → IfSome told (λ bytes. (messages : List (List ℕ)) (ended : Bool) → MessagesOf version bytes messages ended → Contains messages message) → IsOfTold version c message

@@ -4,6 +4,7 @@ pub mod BenchedLemmas
 pub mod CameLemmas
 pub mod CauseLemmas
 pub mod ContentLemmas
+pub mod CutLemmas
 pub mod FileCauseLemmas
 pub mod FitLemmas
 pub mod FollowLemmas
@@ -15,6 +16,7 @@ pub mod JoinLemmas
 pub mod KnownLemmas
 pub mod LawLemmas
 pub mod LeavesLemmas
+pub mod LentLemmas
 pub mod LineLemmas
 pub mod LogCauseLemmas
 pub mod MadeLemmas

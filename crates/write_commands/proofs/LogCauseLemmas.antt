@@ -18,7 +18,7 @@ use Rattle.archive_meaning.specs.Held.{File}
 use Rattle.disk_seal.proofs.ToldLemmas.{told_map}
 use Rattle.command_answers.specs.Benched.{IsSpared, IsTakenWhole, MayRefuseLog, generated_names}
 use Rattle.command_refusals.specs.Ending.{RoseIn}
-use Rattle.command_answers.specs.Ingested.{FileOutcome, HasMoreThan, IsFront, Logs, names_in}
+use Rattle.command_answers.specs.Ingested.{AreCutShort, FileOutcome, HasMoreThan, IsFront, Logs, names_in}
 use Rattle.command_refusals.specs.LogLimits.{IsLong, most_messages}
 use Rattle.write_commands.specs.StepsCauses.{CameIn, HasCauseIn, HaveFileCauses, Target}
 use Rattle.command_refusals.specs.declared.outcome.PartCause.{PartCause}
@@ -134,35 +134,35 @@ module _ (number lines : ℕ) where
   -- ---- causes
 
   -- what is told of the four logs where the openings of others may fail, and where none does
-  abbrev told_with : (List ℕ → ℕ × ℕ) → Logs
-  told_with opens = record { opens = opens; reads = λ name. (0, 0) }
+  abbrev told_with : (List ℕ → Option (List ℕ)) → (List ℕ → ℕ × ℕ) → Logs
+  told_with unread opens = record { opens = opens; reads = λ name. (0, 0); unread = unread }
 
-  module _ (most : lines ≤ 1000000) (opens : List ℕ → ℕ × ℕ) (none : (name : List ℕ) → IsGenerated name → opens name ≡ (0, 0)) (into : Target) (old mid new : DiskState) (same : new.seen ≡ mid.seen) (later : mid.faults ≤ new.faults) where
+  module _ (unread unread' : List ℕ → Option (List ℕ)) (most : lines ≤ 1000000) (opens : List ℕ → ℕ × ℕ) (none : (name : List ℕ) → IsGenerated name → opens name ≡ (0, 0)) (into : Target) (old mid new : DiskState) (same : new.seen ≡ mid.seen) (later : mid.faults ≤ new.faults) where
     abbrev Spares : FileOutcome → Option PartCause → Type 0
-    Spares c r = HasCauseIn (told_with (λ name. (0, 0))) into old new c r × MayRefuseLog r
+    Spares c r = HasCauseIn (told_with unread' (λ name. (0, 0))) into old new c r × MayRefuseLog r
 
-    spares : (c : FileOutcome) → IsGenerated c.name → IsLogged c → (r : Option PartCause) → HasCauseIn (told_with opens) into old mid c r → Spares c r
+    spares : (c : FileOutcome) → IsGenerated c.name → IsLogged c → (r : Option PartCause) → HasCauseIn (told_with unread opens) into old mid c r → Spares c r
     spares c is logged None cause = (cause, tt)
     spares c is logged (Some PartCause.OpenFault) cause = absurd (not_risen (subst RoseIn (none c.name is) cause.0))
-    spares c is logged (Some PartCause.ReadFault) cause = absurd (not_risen cause.0)
+    spares c is logged (Some PartCause.ReadFault) cause = absurd (not_risen cause)
     spares c is logged (Some (PartCause.LineTooLong line)) cause = absurd (none_long c.name is line (subst (λ (o : Option (List ℕ)). IfSome o (λ bytes. IsLong bytes line)) logged cause.0))
     spares c is logged (Some PartCause.TooManyLines) cause = absurd (none_many most into.header.version c.name is (subst (λ (o : Option (List ℕ)). HasMoreThan most_messages into.header.version o) logged cause.1))
     spares c is logged (Some (PartCause.Full book count)) cause = (cause, tt)
-    spares c is logged (Some (PartCause.ArchiveFull end need)) cause = ((cause.0, told_map into.told (fit_later opens (λ name. (0, 0)) (λ name. (0, 0)) into.rows into.first into.came into.header into.entries mid new same c end need) cause.1), tt)
+    spares c is logged (Some (PartCause.ArchiveFull end need)) cause = ((cause.0, told_map into.told (fit_later unread unread' opens (λ name. (0, 0)) (λ name. (0, 0)) into.rows into.first into.came into.header into.entries mid new same c end need) cause.1), tt)
     spares c is logged (Some PartCause.DiskFault) cause = (rose_on old.faults mid.faults new.faults later cause, tt)
     spares c is logged (Some PartCause.OutOfMemory) cause = (tt, tt)
 
     abbrev Before : FileOutcome → Type 0
-    Before = CameIn (told_with opens) into old mid
+    Before = CameIn (told_with unread opens) into old mid
 
     abbrev After : FileOutcome → Type 0
-    After = CameIn (told_with (λ name. (0, 0))) into old new
+    After = CameIn (told_with unread' (λ name. (0, 0))) into old new
 
     each_after : (came : List FileOutcome) → All IsGenerated (names_in came) → All IsLogged came → All Before came → All After came
     each_after [] are logged all = All-nil After
     each_after (c ∷ came) are logged all =
         let one : Before c = All-head Before c came all in
-        All-cons After c came (record { cause = (spares c (All-head IsGenerated c.name (names_in came) are) (All-head IsLogged c came logged) c.refusal one.cause).0; part = one.part })
+        All-cons After c came (record { cause = (spares c (All-head IsGenerated c.name (names_in came) are) (All-head IsLogged c came logged) c.refusal one.cause).0; part = one.part; unopened = one.unopened })
         (each_after came (All-tail IsGenerated c.name (names_in came) are) (All-tail IsLogged c came logged) (All-tail Before c came all))
 
     each_spared : (came : List FileOutcome) → All IsGenerated (names_in came) → All IsLogged came → All Before came → All IsSpared came
@@ -173,12 +173,16 @@ module _ (number lines : ℕ) where
         (each_spared came (All-tail IsGenerated c.name (names_in came) are) (All-tail IsLogged c came logged) (All-tail Before c came all))
 
   -- the causes of the four logs
-  module _ (most : lines ≤ 1000000) (s later : GeneratedState) (workers rows : ℕ) (old mid new : DiskState) (same : new.seen ≡ mid.seen) (counts : mid.faults ≤ new.faults) (came : List FileOutcome) (are : names_in came ≡ generated_names) (logged : All IsLogged came) where
+  module _ (unread unread' : List ℕ → Option (List ℕ)) (most : lines ≤ 1000000) (s later : GeneratedState) (workers rows : ℕ) (old mid new : DiskState) (same : new.seen ≡ mid.seen) (counts : mid.faults ≤ new.faults) (came : List FileOutcome) (are : names_in came ≡ generated_names) (logged : All IsLogged came) where
     abbrev opens_in : List ℕ → ℕ × ℕ
     opens_in name = (open_faults_of s name, open_faults_of later name)
 
-    pub log_causes : HaveFileCauses (told_with opens_in) workers rows old mid came → HaveFileCauses (told_with (λ name. (0, 0))) workers rows old new came
-    log_causes have = record { into = have.into; came_are = have.came_are; rows_are = have.rows_are; told = have.told; causes = record { each = each_after most opens_in (calm s later) have.into old mid new same counts came (all_named came are) logged have.causes.each; in_turn = have.causes.in_turn } }
+    pub logs_spared : HaveFileCauses (told_with unread opens_in) workers rows old mid came → All IsSpared came
+    logs_spared have = each_spared unread unread' most opens_in (calm s later) have.into old mid new same counts came (all_named came are) logged have.causes.each
 
-    pub logs_spared : HaveFileCauses (told_with opens_in) workers rows old mid came → All IsSpared came
-    logs_spared have = each_spared most opens_in (calm s later) have.into old mid new same counts came (all_named came are) logged have.causes.each
+    -- no read of them failed
+    none_cut : (have : HaveFileCauses (told_with unread opens_in) workers rows old mid came) → AreCutShort unread' have.into.header.version came
+    none_cut have = λ place c bytes at is log. absurd (subst MayRefuseLog is (at_of IsSpared came place c (logs_spared have) at))
+
+    pub log_causes : HaveFileCauses (told_with unread opens_in) workers rows old mid came → HaveFileCauses (told_with unread' (λ name. (0, 0))) workers rows old new came
+    log_causes have = record { into = have.into; came_are = have.came_are; rows_are = have.rows_are; told = have.told; causes = record { each = each_after unread unread' most opens_in (calm s later) have.into old mid new same counts came (all_named came are) logged have.causes.each; cut = none_cut have; in_turn = have.causes.in_turn } }

@@ -201,6 +201,7 @@ module _ (old mid : DiskState) (made : MakesEmpty default_header old mid) (tells
         told = made_from (λ h before bytes stood. IsTarget have.into h before (length stood.legal.held.names)) have.told;
         causes = record {
           each = All-weaker (CameIn logs have.into mid new) (CameIn logs have.into (as_made old) new) (came_on logs have.into (as_made old) mid new low) came have.causes.each;
+          cut = have.causes.cut;
           in_turn = have.causes.in_turn;
         };
       }

@@ -1,6 +1,6 @@
 -- From the logs that were opened, and their jobs, to what came of the files.
 use Rattle.std.proofs.Common.{◌≡◌, ◌<◌, inl, inr, refl, sym, ap, subst, ◌∙◌, ℕ, zero, suc, List, [], ◌∷◌, ◌++◌, true, false, length, map, Option, Some, None}
-use Rattle.std.specs.Prelude.{All, Bool, is_some, option_map, slice_get}
+use Rattle.std.specs.Prelude.{All, Bool, is_some, not, option_map, slice_get}
 use Rattle.std.specs.List.{AllZip}
 use Rattle.std.proofs.lemmas.List.Elements.{All-map, All-nil, All-weaker}
 use Rattle.std.proofs.lemmas.Option.{get_or_from_slice_get, slice_get-map, slice_get_within}
@@ -128,16 +128,12 @@ open_at {S} sources js same i job s at source_at =
     some_is : {x y : Bool} → Some x ≡ Some y → x ≡ y
     some_is e = cc (e)
 
--- what a job met is no fault of an opening
-pub not_opening : (cause : Option Cause) → option_map of_cause cause ≡ Some PartCause.OpenFault → ⊥
-not_opening None is = absurd (cc (is))
-not_opening (Some Cause.ReadFault) is = absurd (cc (is))
-not_opening (Some (Cause.LineTooLong line)) is = absurd (cc (is))
-not_opening (Some Cause.TooManyLines) is = absurd (cc (is))
-not_opening (Some (Cause.Full book count)) is = absurd (cc (is))
-not_opening (Some (Cause.DiskFault opened now)) is = absurd (cc (is))
-not_opening (Some Cause.OutOfMemory) is = absurd (cc (is))
-not_opening (Some (Cause.ArchiveFull end need)) is = absurd (cc (is))
+-- a source was opened where its opening was not refused
+none_refused : {S : Type 0} (s : LogSource S) (told : Bool) → is_some (refusal_of s) ≡ not told → told ≡ is_opened s
+none_refused {S} (Opened s) true is = refl
+none_refused {S} (Opened s) false is = absurd (cc (is))
+none_refused {S} (Unopened cause n) true is = absurd (cc (is))
+none_refused {S} (Unopened cause n) false is = refl
 
 -- a source was made of the log of a file
 abbrev pub CameBy : {S : Type 0} → (S → Option (List ℕ)) → (S → Option (List ℕ)) → (S → ℕ) → (List ℕ → ℕ) → (List ℕ → ℕ) → FileOutcome → LogSource S → Type 0
@@ -154,6 +150,7 @@ pub record CameOfLog {S : Type 0} (R : FileOutcome → LogSource S → Type 0) (
   pub opened : old.is_open ≡ is_opened source
   pub no_part : old.is_part ≡ false
   pub came : R c source
+  pub is_open : c.opened ≡ is_opened source
   pub messages : c.messages ≡ done.outcome.messages
   pub whole : c.whole ≡ done.outcome.whole
   pub refusal : c.refusal ≡ refusal_by (refusal_of source) done.outcome.cause
@@ -171,10 +168,10 @@ module _ {S : Type 0} (left name : S → Option (List ℕ)) (faults : S → ℕ)
   by_name c (Unopened Failed n) is came = came
   by_name c (Unopened OutOfMemory n) is came = came
 
-  -- where a log was opened, it is not told of the file that it could not be
-  log_of : (c : FileOutcome) (s : LogSource S) (cause : Option Cause) → By c s → c.refusal ≡ refusal_by (refusal_of s) cause → IsLogOf c (left_in left s)
-  log_of c (Opened s) cause came is = inl (came.left_is, λ failed. not_opening cause (sym is ∙ failed))
-  log_of c (Unopened opening n) cause came is = inr refl
+  -- where a log was opened, so it is told of the file
+  log_of : (c : FileOutcome) (s : LogSource S) → By c s → c.opened ≡ is_opened s → IsLogOf c (left_in left s)
+  log_of c (Opened s) came is = inl (came.left_is, is)
+  log_of c (Unopened opening n) came is = inr refl
 
   opened_log : (c : FileOutcome) (s : LogSource S) → By c s → refusal_of s ≡ None → left_in left s ≡ c.log
   opened_log c (Opened s) came none = came.left_is
@@ -215,6 +212,7 @@ module _ {S : Type 0} (left name : S → Option (List ℕ)) (faults : S → ℕ)
                 opened = open_at sources js opening i job.0 p.source job.1 p.source_at;
                 no_part = (numbered_at first js i job.0 numbered job.1).whole;
                 came = by_name c p.source (subst (λ (x : FileOutcome). x.log ≡ content x.name) is refl) (subst (λ n. Came_of n p.source) same_name p.came);
+                is_open = ap (λ (x : FileOutcome). x.opened) (sym is) ∙ none_refused p.source file.opened (ap is_some (sym opening_is) ∙ t.opened);
                 messages = ap (λ (x : FileOutcome). x.messages) (sym is) ∙ t.messages;
                 whole = ap (λ (x : FileOutcome). x.whole) (sym is) ∙ t.whole;
                 refusal = ap (λ (x : FileOutcome). x.refusal) (sym is) ∙ (t.refusal ∙ ap (λ (o : Option OpenRefused). refusal_by o t.job.outcome.cause) opening_is);
@@ -239,7 +237,7 @@ module _ {S : Type 0} (left name : S → Option (List ℕ)) (faults : S → ℕ)
             let f = file_at i p.name p.name_at in
             let l = came_of_log i f.0 f.1 in
             let has : job.source ≡ Some l.source = ap (λ (x : Job (LogSource S)). x.source) (some_is job l.old (sym at ∙ l.at)) ∙ l.has in
-            (f.0, f.1, subst (λ (o : Option (LogSource S)). IsLogOf f.0 (in_source (left_in left) o)) (sym has) (log_of f.0 l.source l.done.outcome.cause l.came l.refusal));
+            (f.0, f.1, subst (λ (o : Option (LogSource S)). IsLogOf f.0 (in_source (left_in left) o)) (sym has) (log_of f.0 l.source l.came l.is_open));
       }
         where
           some_is : (x y : Job (LogSource S)) → Some x ≡ Some y → x ≡ y

@@ -20,7 +20,7 @@ use Rattle.log_seams.proofs.MomentLemmas.{rose}
 use Rattle.record_format.specs.declared.header.Header.{Header}
 use Rattle.disk_journal.specs.State.{JournalState}
 use Rattle.command_refusals.specs.Outside.{Outside}
-use Rattle.command_answers.specs.Ingested.{AreFullInTurn, CameOfFile, DidNotFit, FileOutcome, FromArchive, HasFileCause, HasMoreThan, IsFullByGiven, IsFullInTurn, IsGiven, IsNextTooLong, Logs, OfTaken, WasCutShort, WasMetInOneOf, logs_of, names_in}
+use Rattle.command_answers.specs.Ingested.{AreCutShort, AreFullInTurn, CameOfFile, DidNotFit, FileOutcome, FromArchive, HasFileCause, HasMoreThan, IsFullByGiven, IsFullInTurn, IsGiven, IsNextTooLong, Logs, OfTaken, WasMetInOneOf, logs_of, names_in}
 use Rattle.write_commands.specs.StepsCauses.{AreFullInto, CameIn, HasCauseIn, HaveCausesIn, HaveFileCauses, IsTarget, Target, into_journal}
 use Rattle.write_commands.specs.JournalLeft.{AddsNamesTo, HasNames}
 use Rattle.command_refusals.specs.LogLimits.{most_messages}
@@ -44,7 +44,7 @@ module _ (logs : Logs) (into : Target) (old mid new : DiskState) (risen : old.fa
   cause_on c (Some PartCause.OutOfMemory) cause = cause
 
   pub came_on : (c : FileOutcome) → CameIn logs into mid new c → CameIn logs into old new c
-  came_on c is = record { cause = cause_on c c.refusal is.cause; part = is.part }
+  came_on c is = record { cause = cause_on c c.refusal is.cause; part = is.part; unopened = is.unopened }
 
 texts_named : (names : List (List ℕ)) (es before : List JournalEntry) → es ≡ before ++ Files names ∷ [] → (book : Which) → book_texts book es ≡ book_texts book before
 texts_named names es before is WhichTypes = ap types_of is ∙ (types_joined before (Files names ∷ []) ∙ append-nil (types_of before))
@@ -60,6 +60,7 @@ causes_sooner old mid late looked logs workers rows names first j new came risen
       (λ h before bytes stood only adds. is_target h before (length stood.legal.held.names) adds.has adds.number) added;
   causes = record {
     each = All-weaker (CameIn logs into j.disk new) (CameIn logs into old new) (came_on logs into old j.disk new (omega (arith, looked.counts, risen))) came causes.each;
+    cut = causes.cut;
     in_turn = causes.in_turn;
   };
 }
@@ -77,6 +78,7 @@ causes_looked old mid late looked logs workers rows new came have = record {
       (λ h before bytes stood only target. target) have.told;
   causes = record {
     each = All-weaker (CameIn logs have.into late new) (CameIn logs have.into old new) (came_on logs have.into old late new looked.counts) came have.causes.each;
+    cut = have.causes.cut;
     in_turn = have.causes.in_turn;
   };
 }
@@ -108,7 +110,7 @@ module _ (seen : Outside) (old new : DiskState) (into : Target) (told : FromArch
   file_cause : (c : FileOutcome) (r : Option PartCause) → HasCauseIn (logs_of seen) into old new c r → HasFileCause into.rows into.came seen old new c r
   file_cause c None cause = cause
   file_cause c (Some PartCause.OpenFault) cause = cause
-  file_cause c (Some PartCause.ReadFault) cause = (cause.0, from_header (λ h. IfSome c.log (WasCutShort h.version c)) cause.1)
+  file_cause c (Some PartCause.ReadFault) cause = cause
   file_cause c (Some (PartCause.LineTooLong line)) cause = (cause.0, from_header (λ h. IfSome c.log (IsNextTooLong h.version c line)) cause.1)
   file_cause c (Some PartCause.TooManyLines) cause = (cause.0, from_header (λ h. HasMoreThan most_messages h.version c.log) cause.1)
   file_cause c (Some (PartCause.Full book count)) cause = from_full c book count cause
@@ -134,7 +136,10 @@ module _ (seen : Outside) (old new : DiskState) (into : Target) (told : FromArch
 pub file_causes : (workers rows : ℕ) (seen : Outside) (old new : DiskState) (came : List FileOutcome) → HaveFileCauses (logs_of seen) workers rows old new came → All (CameOfFile rows came seen old new) came
 file_causes workers rows seen old new came have = subst (λ (cs : List FileOutcome). All (CameOfFile rows cs seen old new) came) have.came_are
     (subst (λ n. All (CameOfFile n have.into.came seen old new) came) have.rows_are
-    (All-weaker (CameIn (logs_of seen) have.into old new) (CameOfFile have.into.rows have.into.came seen old new) (λ c is. record { cause = file_cause seen old new have.into have.told c c.refusal is.cause; part = is.part }) came have.causes.each))
+    (All-weaker (CameIn (logs_of seen) have.into old new) (CameOfFile have.into.rows have.into.came seen old new) (λ c is. record { cause = file_cause seen old new have.into have.told c c.refusal is.cause; part = is.part; unopened = is.unopened }) came have.causes.each))
 
 pub full_in_turn : (workers rows : ℕ) (seen : Outside) (old new : DiskState) (came : List FileOutcome) → HaveFileCauses (logs_of seen) workers rows old new came → workers ≡ 1 → AreFullInTurn rows old came
 full_in_turn workers rows seen old new came have one = subst (λ n. AreFullInTurn n old came) have.rows_are (from_turns seen old new have.into have.told came (have.causes.in_turn one))
+
+pub cut_short : (workers rows : ℕ) (seen : Outside) (old new : DiskState) (came : List FileOutcome) → HaveFileCauses (logs_of seen) workers rows old new came → FromArchive old (λ h before bytes stood. AreCutShort seen.unread h.version came)
+cut_short workers rows seen old new came have = from_header seen old new have.into have.told (λ h. AreCutShort seen.unread h.version came) have.causes.cut

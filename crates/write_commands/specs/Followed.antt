@@ -1,5 +1,5 @@
 -- What became of a follower of the journal beside an ingest.
-use Rattle.std.specs.Prelude.{◌≡◌, ◌⊎◌, ◌+◌, ℕ, true, false, List, [], ◌∷◌, ◌++◌, length}
+use Rattle.std.specs.Prelude.{◌≡◌, ◌⊎◌, ◌+◌, ◌≤◌, ℕ, true, false, List, [], ◌∷◌, ◌++◌, length, is_some}
 use Rattle.log_seams.specs.declared.disk.Disk.{Ghosts as DiskGhosts}
 use Rattle.log_seams.specs.Disk.{DiskState}
 use Rattle.log_seams.specs.Outside.{Rose}
@@ -8,9 +8,11 @@ use Rattle.disk_journal.specs.declared.journal.Journal.{Journal}
 use Rattle.archive_meaning.specs.declared.entry.JournalEntry.{JournalEntry}
 use Rattle.archive_meaning.specs.declared.entry.JournalEntry.TheVariants.{Files}
 use Rattle.archive_meaning.specs.Stands.{StandsFor}
+use Rattle.disk_journal.specs.State.{JournalState}
 use Rattle.disk_seal.specs.Beside.{Follower, StandsOn}
+use Rattle.disk_seal.specs.Told.{IfTold}
 use Rattle.ingest_workers.specs.Beside.{MayBeginWith, WentBeside}
-use Rattle.ingest_workers.specs.Ingested.{IsAsItWas}
+use Rattle.ingest_workers.specs.Ingested.{IsAsItWas, told_entries}
 use Rattle.command_answers.specs.Ingested.{FileOutcome, FromArchive, TakesIn}
 
 module _ {F D : Type 0} {d : DiskGhosts D} where
@@ -26,6 +28,12 @@ module _ {F D : Type 0} {d : DiskGhosts D} where
   WentAlong f g before after = WentBeside f g before after ⊎ RestsBeside f g before after
 
 module _ {F : Type 0} where
+  -- It may begin with a journal that is so.
+  pub record MayBeginAt (f : Follower F) (j : JournalState) : Type 0 where
+    pub within : f.first + f.handled ≤ j.count
+    pub stands : IfTold (is_some j.disk.seen) (StandsOn f j.header (told_entries j))
+    pub running : f.halted ≡ false
+
   -- The files were taken in. It stands for the first entries of the archive as it is now; and unless it refuses it has handled
   -- all of them, or there are none behind the names.
   pub record IsLed (g : Follower F) {bytes : List ℕ} (rows : ℕ) (h : Header) (before : List JournalEntry)

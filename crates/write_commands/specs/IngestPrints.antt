@@ -8,6 +8,7 @@ abbrev pub came_of : (List ℕ → Option (List ℕ)) → FileReport → FileOut
 came_of content file = record {
   name = file.name.now;
   log = content file.name.now;
+  opened = file.opened;
   messages = file.messages;
   whole = file.whole;
   refusal = file.refusal;

@@ -1,5 +1,5 @@
 -- What came of files, by the openings of their logs and by their jobs.
-use Rattle.std.specs.Prelude.{◌≡◌, ◌⊎◌, ℕ, Bool, false, List, Option, Some, None, map, option_map, slice_get}
+use Rattle.std.specs.Prelude.{◌≡◌, ◌⊎◌, ℕ, Bool, false, List, Option, Some, None, is_some, map, not, option_map, slice_get}
 use Rattle.log_seams.specs.declared.disk.Disk.{Ghosts as DiskGhosts}
 use Rattle.log_seams.specs.declared.refusals.OpenRefused.{OpenRefused}
 use Rattle.disk_journal.specs.declared.journal.Journal.{Journal}
@@ -43,6 +43,7 @@ pub record IsToldBy {S : Type 0} (openings : List (Option OpenRefused)) (jobs : 
   pub at : slice_get jobs i ≡ Some job
   pub opening : Option OpenRefused
   pub opening_at : slice_get openings i ≡ Some opening
+  pub opened : is_some opening ≡ not file.opened
   pub messages : file.messages ≡ job.outcome.messages
   pub whole : file.whole ≡ job.outcome.whole
   pub refusal : file.refusal ≡ refusal_by opening job.outcome.cause

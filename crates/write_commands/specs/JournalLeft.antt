@@ -8,7 +8,7 @@ use Rattle.archive_meaning.specs.declared.entry.JournalEntry.{JournalEntry}
 use Rattle.archive_meaning.specs.declared.entry.JournalEntry.TheVariants.{Files}
 use Rattle.archive_meaning.specs.Stands.{StandsFor}
 use Rattle.ingest_workers.specs.Ingested.{told_entries}
-use Rattle.command_answers.specs.Ingested.{CouldNotOpen, FileOutcome, TakesIn}
+use Rattle.command_answers.specs.Ingested.{FileOutcome, TakesIn}
 
 -- the bytes stand for the journal
 abbrev pub StandsStill : Header → List JournalEntry → List ℕ → Type 0
@@ -24,9 +24,9 @@ pub record HasNames (h : Header) (before : List JournalEntry) (names : List (Lis
   pub header : j.header ≡ h
   pub entries : told_entries j ≡ before ++ Files names ∷ []
 
--- what a source has left is that of the file's log, which could be opened, or nothing
+-- what a source has left is that of the file's log, which was opened, or nothing
 abbrev pub IsLogOf : FileOutcome → Option (List ℕ) → Type 0
-IsLogOf c told = ((told ≡ c.log) × ¬ CouldNotOpen c) ⊎ (told ≡ Some [])
+IsLogOf c told = ((told ≡ c.log) × (c.opened ≡ true)) ⊎ (told ≡ Some [])
 
 -- The names of new files were appended to the journal, which is told with them, and they are numbered from `first` on. Each image
 -- since the start stands for the journal of before, or for it with the names.

@@ -1,5 +1,5 @@
 -- What follows from the definitions of what an ingest leaves and tells.
-use Rattle.std.specs.Prelude.{◌≡◌, ◌⊎◌, ◌≤◌, ℕ, Bool, List, ◌++◌, length, All, Some, IsSome}
+use Rattle.std.specs.Prelude.{◌≡◌, ◌⊎◌, ◌≤◌, ℕ, Bool, true, false, List, ◌++◌, length, All, Some, IsSome}
 use Rattle.std.specs.List.{Contains}
 use Rattle.log_seams.specs.Disk.{DiskState}
 use Rattle.record_format.specs.declared.header.Header.{Header}
@@ -9,17 +9,17 @@ use Rattle.row_codec.specs.declared.namer.Which.{Which}
 use Rattle.ingest_meaning.specs.Parts.{IsCut, IsOpen, Part}
 use Rattle.command_refusals.specs.Ending.{RoseIn}
 use Rattle.command_refusals.specs.LogLimits.{IsLong, most_messages}
-use Rattle.command_answers.specs.Ingested.{CouldNotOpen, DidNotFit, FileOutcome, IsFullBehind, IsGiven, Logs}
+use Rattle.command_answers.specs.Ingested.{DidNotFit, FileOutcome, IsFullBehind, IsGiven, Logs}
 
--- ---- logs that could not be opened
+-- ---- logs that were not opened
 
--- the log could not be opened, or its bytes are told
+-- the log was not opened, or its bytes are told
 abbrev pub IsUnopenedOrTold : FileOutcome → Type 0
-IsUnopenedOrTold c = CouldNotOpen c ⊎ IsSome c.log
+IsUnopenedOrTold c = (c.opened ≡ false) ⊎ IsSome c.log
 
--- the file's log could be opened, its bytes are told, and the message is one of theirs
+-- the file's log was opened, its bytes are told, and the message is one of theirs
 pub record IsOfTold (version : ℕ) (c : FileOutcome) (message : List ℕ) : Type 0 where
-  pub opened : ¬ CouldNotOpen c
+  pub opened : c.opened ≡ true
   pub bytes : List ℕ
   pub told : c.log ≡ Some bytes
   pub messages : List (List ℕ)
@@ -27,7 +27,7 @@ pub record IsOfTold (version : ℕ) (c : FileOutcome) (message : List ℕ) : Typ
   pub are : MessagesOf version bytes messages ended
   pub one : Contains messages message
 
--- A log that could not be opened, of whose bytes nothing is told, says nothing of the messages of the others: each that is given
+-- A log that was not opened, of whose bytes nothing is told, says nothing of the messages of the others: each that is given
 -- is one of told bytes.
 abbrev pub UnopenedGiveNothing : Type 0
 UnopenedGiveNothing =

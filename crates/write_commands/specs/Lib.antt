@@ -1,6 +1,7 @@
 pub mod Followed
 pub mod IngestPrints
 pub mod Jobs
+pub mod JournalAt
 pub mod JournalLeft
 pub mod Laws
 pub mod Naming

@@ -9,15 +9,16 @@ use Rattle.disk_journal.specs.State.{JournalState}
 use Rattle.disk_seal.specs.Told.{IfTold}
 use Rattle.ingest_workers.specs.Ingested.{told_entries}
 use Rattle.command_refusals.specs.Ending.{RoseIn}
-use Rattle.command_answers.specs.Ingested.{FileOutcome, DidNotFit, FromArchive, HasMoreThan, IsFullByGiven, IsFullInTurn, IsNextTooLong, Logs, OfStopped, WasCutShort, names_in}
+use Rattle.command_answers.specs.Ingested.{AreCutShort, FileOutcome, DidNotFit, FromArchive, HasMoreThan, IsFullByGiven, IsFullInTurn, IsNextTooLong, Logs, OfStopped, WasNotOpened, names_in}
 use Rattle.command_refusals.specs.LogLimits.{IsLong, most_messages}
 use Rattle.command_refusals.specs.declared.outcome.PartCause.{PartCause}
 
 -- what a shelf tells of the logs around a call
-abbrev pub logs_around : {H : Type 0} → (H → List ℕ → ℕ) → (H → List ℕ → ℕ) → H → H → Logs
-logs_around open_faults read_faults shelf shelf_after = record {
+abbrev pub logs_around : {H : Type 0} → (H → List ℕ → Option (List ℕ)) → (H → List ℕ → ℕ) → (H → List ℕ → ℕ) → H → H → Logs
+logs_around unread open_faults read_faults shelf shelf_after = record {
   opens = λ name. (open_faults shelf name, open_faults shelf_after name);
   reads = λ name. (read_faults shelf name, read_faults shelf_after name);
+  unread = unread shelf_after;
 }
 
 -- What files are taken into, of which this came, where it is told: an archive with this header and these entries, which have
@@ -44,9 +45,8 @@ pub record IsTarget (into : Target) (h : Header) (before : List JournalEntry) (h
 -- What a refusal of a file rests on.
 abbrev pub HasCauseIn : Logs → Target → DiskState → DiskState → FileOutcome → Option PartCause → Type 0
 HasCauseIn logs into old new c None = c.whole ≡ true
-HasCauseIn logs into old new c (Some PartCause.OpenFault) = RoseIn (logs.opens c.name) × (c.messages ≡ 0)
-HasCauseIn logs into old new c (Some PartCause.ReadFault) =
-    RoseIn (logs.reads c.name) × IfSome c.log (WasCutShort into.header.version c)
+HasCauseIn logs into old new c (Some PartCause.OpenFault) = RoseIn (logs.opens c.name) × (c.opened ≡ false)
+HasCauseIn logs into old new c (Some PartCause.ReadFault) = RoseIn (logs.reads c.name)
 HasCauseIn logs into old new c (Some (PartCause.LineTooLong line)) =
     IfSome c.log (λ bytes. IsLong bytes line)
     × IfSome c.log (IsNextTooLong into.header.version c line)
@@ -70,11 +70,14 @@ AreFullInto into came =
 pub record CameIn (logs : Logs) (into : Target) (old new : DiskState) (c : FileOutcome) : Type 0 where
   pub cause : HasCauseIn logs into old new c c.refusal
   pub part : c.refusal ≢ None → c.whole ≡ false
+  pub unopened : c.opened ≡ false → WasNotOpened c
 
 -- So it is of each file, and with one worker each full dictionary was so in turn.
 pub record HaveCausesIn (logs : Logs) (workers : ℕ) (into : Target) (old new : DiskState) (came : List FileOutcome) : Type 0 where
   -- each file has its cause
   pub each : All (CameIn logs into old new) came
+  -- each log of which a read failed was cut short there
+  pub cut : AreCutShort logs.unread into.header.version came
   -- each full dictionary was so by the files up to the one that it stopped
   pub in_turn : workers ≡ 1 → AreFullInto into came
 

@@ -15,7 +15,7 @@ ghost use Rattle.write_commands.specs.IngestPrints.{came_of};
 ghost use Rattle.write_commands.specs.declared.file_report.FileReport.{FileReport};
 
 use crate::file_report::{FileReport, report_taken};
-use crate::ingest::{NewLogs, add_files};
+use crate::ingest::{NewLogs, add_lent};
 use crate::names::refuse_names;
 use crate::summary::summarize;
 use command_refusals::{Refusal, refusal_of_add, refusal_of_create, refusal_of_read, report};
@@ -26,6 +26,7 @@ use log_seams::{Disk, Sink};
 use logtype_text::one_list_of_parts;
 use record_format::{Header, MAX_ARCHIVE_LEN, MAX_WORDS};
 use std::alloc::Global;
+use std::marker::Brand;
 use std::sync::Wait;
 use std::thread::Threads;
 
@@ -126,7 +127,7 @@ fn add_logs<R: Threads + Wait + Sync, D: Disk + Send, K: Sink>(
         files: &names,
     };
     let mut shelf = GeneratedShelf::new(asked.number, asked.lines);
-    match add_files(rt, alloc, logs, &mut shelf, disk, &mut taken) {
+    match add_lent::<R, GeneratedShelf, D, Brand>(rt, alloc, logs, &mut shelf, disk, &mut taken) {
         Ok(_) => sum_up(rt, alloc, taken.as_slice(), disk, out, err),
         Err(refusal) => report(err, "", refusal_of_add(refusal)),
     }

@@ -16,6 +16,8 @@ use log_seams::Sink;
 pub struct FileReport<'a> {
     /// Its name.
     pub name: &'a str,
+    /// Whether its log was opened.
+    pub opened: bool,
     /// How many messages of it the archive has.
     pub messages: u64,
     /// Whether these are all.

@@ -10,13 +10,15 @@ ghost use Rattle.command_refusals.specs.Outside.{around};
 ghost use Rattle.log_sources.specs.Sources.{CameOf, is_opened, refusal_of, str_bytes};
 ghost use Rattle.command_refusals.specs.GoesOn.{DiskGoesOn, OutsideGoesOn};
 ghost use Rattle.ingest_fork.specs.declared.works.TheConstants.{MAX_WORKERS};
-ghost use Rattle.command_answers.specs.Ingested.{EndsIngest};
+ghost use Rattle.command_answers.specs.Ingested.{TellsDamage};
 ghost use Rattle.command_answers.specs.Known.{over, told_if};
-ghost use Rattle.write_commands.specs.Followed.{Follows, WentAlong};
+ghost use Rattle.write_commands.specs.Followed.{Follows, MayBeginAt, WentAlong};
 ghost use Rattle.write_commands.specs.IngestPrints.{came_of, names_of};
 ghost use Rattle.write_commands.specs.Jobs.{DidJobs, IsNotBegun, IsToldBy, opens_of, refusal_by, sources_of};
 ghost use Rattle.write_commands.specs.StepsAdding.{AddsNewLogs, HasRoomFor, IsInLimits, MayAdd, RefusesNewLogs, ShelfGoesOn, names_asked};
 ghost use Rattle.write_commands.specs.StepsCauses.{HaveCausesIn, into_journal, logs_around};
+ghost use Rattle.write_commands.specs.StepsKnown.{EndsIngestAt, IsNoDamage, lent_state};
+ghost use Rattle.write_commands.specs.JournalAt.{state_at};
 ghost use Rattle.write_commands.specs.JournalLeft.{TakesInto};
 ghost use Rattle.command_answers.specs.Names.{RefusesNames};
 ghost use Rattle.write_commands.specs.Naming.{AreNumbered, HasGoneOn, IsHeldBy, IsNamed};
@@ -27,6 +29,7 @@ ghost use Rattle.command_refusals.specs.Outcome.{of_add};
 
 use crate::file_report::{FileReport, part_cause, report_taken};
 use crate::founded::{Base, Founded, Lent};
+use crate::journal_end::JournalEnd;
 use crate::names::refuse_names;
 use crate::register::{Holding, Named, hold, name_files};
 use archive_core::Books;
@@ -95,6 +98,7 @@ fn refuse_all<'a>(names: &'a [&'a str], taken: &mut Vec<FileReport<'a>>)
     for &name in names {
         taken.push_reserved(FileReport {
             name,
+            opened: false,
             messages: 0,
             whole: false,
             refusal: Some(PartCause::OutOfMemory),
@@ -223,6 +227,7 @@ fn end_jobs<'a, S>(
         let opening = openings[place];
         taken.push_reserved(FileReport {
             name: names[place],
+            opened: opening.is_none(),
             messages: outcome.messages,
             whole: outcome.whole,
             refusal: refusal_of_file(opening, outcome.cause),
@@ -293,7 +298,7 @@ where
         (map (came_of (H.content shelf.old)) taken.new.items) (state_of journal.entry)
         (state_of result) }
     ensures causes { HaveCausesIn
-        (logs_around H.open_faults H.read_faults shelf.old shelf.new)
+        (logs_around H.unread H.open_faults H.read_faults shelf.old shelf.new)
         asked.entry.workers
         (into_journal (state_of journal.entry) asked.entry.segment named.first
         (map (came_of (H.content shelf.old)) taken.new.items))
@@ -336,16 +341,16 @@ where
 
 /// What came of the adding of logs to an archive that was opened.
 #[derive(Drop)]
-pub struct Added<'d, D: Disk> {
+struct Added<'d, D: Disk> {
     /// The archive's journal.
-    pub journal: Journal<'d, D>,
+    journal: Journal<'d, D>,
     /// The number of the first new file, or why there is none.
-    pub answer: Result<u32, AddRefusal>,
+    answer: Result<u32, AddRefusal>,
 }
 
 /// Adds the logs to an archive that was opened, by its journal, with a follower of the journal beside
 /// the workers. Where no file was added the follower was not called.
-pub fn add_opened<'a, 'd, R: Threads + Wait + Sync, H: Shelf, D: Disk + Send, B: Beside<D> + Send>(
+fn add_opened<'a, 'd, R: Threads + Wait + Sync, H: Shelf, D: Disk + Send, B: Beside<D> + Send>(
     rt: &R,
     alloc: Global,
     asked: NewLogs<'a>,
@@ -364,7 +369,7 @@ where
 
     // by the answer
     ensures added { IfOk result.answer (λ first. AddsNewLogs (H.content shelf.old)
-        (logs_around H.open_faults H.read_faults shelf.old shelf.new) asked.entry first
+        (logs_around H.unread H.open_faults H.read_faults shelf.old shelf.new) asked.entry first
         taken.new.items (D.state journal.entry.disk.now) (D.state result.journal.disk.now)) }
     ensures followed { OnOk result.answer (Follows (B.known beside.old) (B.known beside.new)
         asked.entry.segment (names_asked asked.entry)
@@ -372,6 +377,7 @@ where
         (D.state journal.entry.disk.now) (D.state result.journal.disk.now)) }
     ensures refused { IfErr result.answer (RefusesNewLogs asked.entry
         (D.state journal.entry.disk.now) (D.state result.journal.disk.now)) }
+    ensures undamaged { IfErr result.answer IsNoDamage }
     ensures rests { OnErr result.answer (beside.new ≡ beside.old) }
 
     // what stays
@@ -396,8 +402,133 @@ where
     }
 }
 
-/// Adds the logs to the archive of a disk. Answers the number of the first new file.
-pub(crate) fn add_files<'a, R: Threads + Wait + Sync, H: Shelf, D: Disk + Send>(
+/// The same over a disk, whose journal has come to this. Answers the number of the first new file.
+pub fn add_over<'a, R: Threads + Wait + Sync, H: Shelf, D: Disk + Send, B: Beside<D> + Send>(
+    rt: &R,
+    alloc: Global,
+    asked: NewLogs<'a>,
+    end: JournalEnd,
+    holding: Holding,
+    shelf: &mut H,
+    disk: &mut D,
+    taken: &mut Vec<FileReport<'a>>,
+    beside: &mut B,
+) -> Result<u32, AddRefusal>
+where
+    H::Src: Send,
+    requires asked { MayAdd asked }
+    requires room { HasRoomFor asked taken.old }
+    requires held { (name : ℕ) → IsHeldBy (state_at name (D.state disk.old) end)
+        holding.types holding.words holding.files }
+    requires beside { (name : ℕ) → MayBeginAt (B.known beside.old)
+        (state_at name (D.state disk.old) end) }
+
+    // by the answer
+    ensures added { IfOk result (λ first. AddsNewLogs (H.content shelf.old)
+        (logs_around H.unread H.open_faults H.read_faults shelf.old shelf.new)
+        asked.entry first taken.new.items (D.state disk.old) (D.state disk.new)) }
+    ensures followed { OnOk result (Follows (B.known beside.old) (B.known beside.new)
+        asked.entry.segment (names_asked asked.entry)
+        (map (came_of (H.content shelf.old)) taken.new.items)
+        (D.state disk.old) (D.state disk.new)) }
+    ensures refused { IfErr result
+        (RefusesNewLogs asked.entry (D.state disk.old) (D.state disk.new)) }
+    ensures undamaged { IfErr result IsNoDamage }
+    ensures rests { OnErr result (beside.new ≡ beside.old) }
+
+    // what stays
+    ensures goes_on { DiskGoesOn (D.state disk.old) (D.state disk.new) }
+    ensures logs { ShelfGoesOn H.content H.open_faults H.read_faults shelf.old shelf.new }
+{
+    let JournalEnd {
+        header,
+        place,
+        count,
+        closed,
+    } = end;
+    let journal = Journal {
+        disk,
+        header,
+        place,
+        count,
+        closed,
+    };
+    let added = add_opened(rt, alloc, asked, journal, holding, shelf, taken, beside);
+    added.answer
+}
+
+/// The same over the disk of the journal, which tells its bytes only where it is to, and is an archive's
+/// there. Answers the number of the first new file, and gives the disk back.
+fn add_founded<'a, 'd, R: Threads + Wait + Sync, H: Shelf, D: Disk + Send, L: Lent + Send>(
+    rt: &R,
+    alloc: Global,
+    asked: NewLogs<'a>,
+    journal: Journal<'d, D>,
+    holding: Holding,
+    shelf: &mut H,
+    taken: &mut Vec<FileReport<'a>>,
+) -> (Result<u32, AddRefusal>, &'d mut D)
+where
+    H::Src: Send,
+    requires asked { MayAdd asked }
+    requires room { HasRoomFor asked taken.old }
+    requires lent { journal.disk.ghost_name ≡ L.name }
+    requires told { is_some (D.state journal.disk.now).seen ≡ L.told }
+    requires held { (name : ℕ) → IsHeldBy (lent_state L.tells name (state_of journal))
+        holding.types holding.words holding.files }
+
+    // by the answer
+    ensures added { IfOk result.0 (λ first. AddsNewLogs (H.content shelf.old)
+        (logs_around H.unread H.open_faults H.read_faults shelf.old shelf.new)
+        asked.entry first taken.new.items
+        (told_if L.tells (D.state journal.entry.disk.now))
+        (told_if L.tells (D.state result.1.now))) }
+    ensures refused { IfErr result.0 (RefusesNewLogs asked.entry
+        (told_if L.tells (D.state journal.entry.disk.now))
+        (told_if L.tells (D.state result.1.now))) }
+    ensures undamaged { IfErr result.0 IsNoDamage }
+
+    // what stays
+    ensures back { result.1.ghost_name ≡ journal.entry.disk.ghost_name }
+    ensures goes_on { DiskGoesOn (D.state journal.entry.disk.now) (D.state result.1.now) }
+    ensures logs { ShelfGoesOn H.content H.open_faults H.read_faults shelf.old shelf.new }
+{
+    let Journal {
+        disk,
+        header,
+        place,
+        count,
+        closed,
+    } = journal;
+    let end = JournalEnd {
+        header,
+        place,
+        count,
+        closed,
+    };
+    let mut founded = Founded::<'d, D, L> {
+        disk,
+        lent: PhantomData,
+    };
+    let mut alone = Alone {};
+    let answer = add_over(
+        rt,
+        alloc,
+        asked,
+        end,
+        holding,
+        shelf,
+        &mut founded,
+        taken,
+        &mut alone,
+    );
+    let Founded { disk, .. } = founded;
+    (answer, disk)
+}
+
+/// Adds the logs to the archive of a disk, which is an archive where its bytes are to be told. Damage is
+/// told of any bytes. Answers the number of the first new file.
+pub(crate) fn add_lent<'a, R: Threads + Wait + Sync, H: Shelf, D: Disk + Send, L: Lent + Send>(
     rt: &R,
     alloc: Global,
     asked: NewLogs<'a>,
@@ -409,14 +540,16 @@ where
     H::Src: Send,
     requires asked { MayAdd asked }
     requires room { HasRoomFor asked taken.old }
-    requires archive { IfSome (D.state disk.old).seen IsArchive }
+    requires archive { IsTrue L.tells → IfSome (D.state disk.old).seen IsArchive }
 
     // by the answer
     ensures added { IfOk result (λ first. AddsNewLogs (H.content shelf.old)
-        (logs_around H.open_faults H.read_faults shelf.old shelf.new)
-        asked.entry first taken.new.items (D.state disk.old) (D.state disk.new)) }
-    ensures refused { IfErr result
-        (RefusesNewLogs asked.entry (D.state disk.old) (D.state disk.new)) }
+        (logs_around H.unread H.open_faults H.read_faults shelf.old shelf.new)
+        asked.entry first taken.new.items
+        (told_if L.tells (D.state disk.old)) (told_if L.tells (D.state disk.new))) }
+    ensures refused { IfErr result (RefusesNewLogs asked.entry
+        (told_if L.tells (D.state disk.old)) (told_if L.tells (D.state disk.new))) }
+    ensures damaged { IfErr result (TellsDamage (D.state disk.old) (D.state disk.new)) }
 
     // what stays
     ensures goes_on { DiskGoesOn (D.state disk.old) (D.state disk.new) }
@@ -427,49 +560,10 @@ where
     let archive: Archive<Books> = open_for_append(alloc, &mut journal)?;
     let files = archive.files().as_slice().len() as u64;
     let holding = hold(archive.into_books(), files);
-    let mut alone = Alone {};
-    let added = add_opened(rt, alloc, asked, journal, holding, shelf, taken, &mut alone);
-    added.answer
-}
-
-/// The same over a disk that is lent, which is an archive where its bytes are to be told. Gives the disk
-/// back.
-fn add_lent<'a, 'd, R: Threads + Wait + Sync, H: Shelf, D: Disk + Send, L: Lent + Send>(
-    rt: &R,
-    alloc: Global,
-    asked: NewLogs<'a>,
-    shelf: &mut H,
-    disk: &'d mut D,
-    taken: &mut Vec<FileReport<'a>>,
-) -> (Result<u32, AddRefusal>, &'d mut D)
-where
-    H::Src: Send,
-    requires asked { MayAdd asked }
-    requires room { HasRoomFor asked taken.old }
-    requires lent { disk.ghost_name ≡ L.name }
-    requires told { is_some (D.state disk.old).seen ≡ L.told }
-    requires archive { IsTrue L.tells → IfSome (D.state disk.old).seen IsArchive }
-
-    // by the answer
-    ensures added { IfOk result.0 (λ first. AddsNewLogs (H.content shelf.old)
-        (logs_around H.open_faults H.read_faults shelf.old shelf.new)
-        asked.entry first taken.new.items
-        (told_if L.tells (D.state disk.old)) (told_if L.tells (D.state result.1.now))) }
-    ensures refused { IfErr result.0 (RefusesNewLogs asked.entry
-        (told_if L.tells (D.state disk.old)) (told_if L.tells (D.state result.1.now))) }
-
-    // what stays
-    ensures back { result.1.ghost_name ≡ disk.entry.ghost_name }
-    ensures goes_on { DiskGoesOn (D.state disk.old) (D.state result.1.now) }
-    ensures logs { ShelfGoesOn H.content H.open_faults H.read_faults shelf.old shelf.new }
-{
-    let mut founded = Founded::<'d, D, L> {
-        disk,
-        lent: PhantomData,
-    };
-    let answer = add_files(rt, alloc, asked, shelf, &mut founded, taken);
-    let Founded { disk, .. } = founded;
-    (answer, disk)
+    let (answer, _disk) = add_founded::<R, H, D, Brand>(
+        rt, alloc, asked, journal, holding, shelf, taken,
+    );
+    answer
 }
 
 /// The same over any disk: what is said of its bytes is said where they are those of the archive that
@@ -489,20 +583,20 @@ where
 
     // by the answer
     ensures added { IfOk result (λ first. AddsNewLogs (H.content shelf.old)
-        (logs_around H.open_faults H.read_faults shelf.old shelf.new)
+        (logs_around H.unread H.open_faults H.read_faults shelf.old shelf.new)
         asked.entry first taken.new.items
         (over B.archive (D.state disk.old) (D.state disk.old))
         (over B.archive (D.state disk.old) (D.state disk.new))) }
     ensures refused { IfErr result (RefusesNewLogs asked.entry
         (over B.archive (D.state disk.old) (D.state disk.old))
         (over B.archive (D.state disk.old) (D.state disk.new))) }
+    ensures damaged { IfErr result (TellsDamage (D.state disk.old) (D.state disk.new)) }
 
     // what stays
     ensures goes_on { DiskGoesOn (D.state disk.old) (D.state disk.new) }
     ensures logs { ShelfGoesOn H.content H.open_faults H.read_faults shelf.old shelf.new }
 {
-    let (answer, _disk) = add_lent::<R, H, D, Brand>(rt, alloc, asked, shelf, disk, taken);
-    answer
+    add_lent::<R, H, D, Brand>(rt, alloc, asked, shelf, disk, taken)
 }
 
 /// Adds logs to an archive, and tells what came of each.
@@ -526,12 +620,11 @@ where
         (around H.content H.unread H.open_faults H.read_faults K.written K.faults
         shelf.old shelf.new out.old out.new err.old err.new)
         (D.state disk.old) (D.state disk.new) result (of_add refusal) }
-    ensures answers { EndsIngest asked.entry.workers asked.entry.segment
+    ensures answers { EndsIngestAt B.archive asked.entry.workers asked.entry.segment
         (map str_bytes asked.entry.files.now)
         (around H.content H.unread H.open_faults H.read_faults K.written K.faults
         shelf.old shelf.new out.old out.new err.old err.new)
-        (over B.archive (D.state disk.old) (D.state disk.old))
-        (over B.archive (D.state disk.old) (D.state disk.new)) result }
+        (D.state disk.old) (D.state disk.new) result }
 
     // whatever the answer
     ensures outside { OutsideGoesOn

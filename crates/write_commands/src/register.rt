@@ -6,6 +6,7 @@ ghost use Rattle.command_answers.specs.Ingested.{FromArchive, HasCallCause, Take
 ghost use Rattle.write_commands.specs.JournalLeft.{AddsNamesTo};
 ghost use Rattle.write_commands.specs.Naming.{HasNamesMore, IsHeldBy, IsNamed};
 ghost use Rattle.write_commands.specs.StepsAdding.{AreAccepted};
+ghost use Rattle.write_commands.specs.StepsKnown.{IsNoDamage};
 ghost use Rattle.log_sources.specs.Sources.{str_bytes};
 
 use crate::names::refuse_more;
@@ -95,6 +96,7 @@ pub(crate) fn name_files<D: Disk>(
         (D.state journal.old.disk.now) (D.state journal.new.disk.now))) }
     ensures cause { IfErr result (HasCallCause (map str_bytes names.now)
         (D.state journal.old.disk.now) (D.state journal.new.disk.now)) }
+    ensures undamaged { IfErr result IsNoDamage }
 {
     let Holding {
         types,

@@ -49,7 +49,7 @@ returns-in-Ok-add_known-clause-answers g c =
     let names = map str_bytes c.args.asked.files.now in
     let content = g.H.Shelf.content c.args.shelf.now in
     let files = c.as_slice.ensures.value in
-    let did = subst (λ (fs : List FileReport). AddsWatched content (logs_around g.H.Shelf.open_faults g.H.Shelf.read_faults c.args.shelf.now c.add_known.new.shelf) c.args.asked c.args.pattern c.in-Ok-add_known.watched fs
+    let did = subst (λ (fs : List FileReport). AddsWatched content (logs_around g.H.Shelf.unread g.H.Shelf.open_faults g.H.Shelf.read_faults c.args.shelf.now c.add_known.new.shelf) c.args.asked c.args.pattern c.in-Ok-add_known.watched fs
     (g.K.Sink.written c.args.out.now, g.K.Sink.written c.add_known.new.out) (g.K.Sink.faults c.args.out.now, g.K.Sink.faults c.add_known.new.out) old new) (sym files) c.in-Ok-add_known.ensures.added in
     record {
       names_first = λ refusal refused. absurd (none_refused names refusal (rw (c.in_default.is) at c.refuse_names.ensures) refused);
@@ -58,6 +58,7 @@ returns-in-Ok-add_known-clause-answers g c =
           c.in-Ok-add_known.watched.first c.as_slice.result.now did.adds.names did.adds.number did.adds.taken did.adds.causes
           (record { out = refl; faults = refl; err = refl; err_faults = refl }) c.add_known.ensures.more.grew c.add_known.ensures.more.later c.print_rest.ensures.out did.watched
           (c.print_rest.ensures.prints content content content (λ n. 0) (λ n. 0)));
+      damaged = tt;
     }
 
 pub returns-clause-answers : goal.returns-clause-answers
@@ -72,4 +73,5 @@ returns-clause-answers g c =
         nothing = ap g.K.Sink.written c.in-Err.ensures.rests;
         sink = ap g.K.Sink.faults c.in-Err.ensures.rests;
       }) c.in-Err.ensures.refused.cause c.in-Err.ensures.refused.nothing);
+      damaged = c.in-Err.ensures.damaged;
     }

@@ -32,6 +32,7 @@ loop-job-preserved g c =
             at = next.at;
             opening = get_or c.args.openings.now c.len-place.result None;
             opening_at = read_place c.args.openings.now c.len-place.result (length c.loop-job.taken.items) None (omega (arith, c.len-place.ensures)) (omega (arith, c.len-place.ensures, c.in-Some.ensures.len, before.count, c.requires.count.1));
+            opened = c.is_none.ensures;
             messages = ap (λ (o : Outcome). o.messages) c.outcome-outcome.ensures;
             whole = ap (λ (o : Outcome). o.whole) c.outcome-outcome.ensures;
             refusal = c.refusal_of_file.ensures ∙ ap (λ (o : Outcome). refusal_by (get_or c.args.openings.now c.len-place.result None) o.cause) c.outcome-outcome.ensures;

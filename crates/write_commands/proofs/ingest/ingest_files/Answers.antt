@@ -2,7 +2,7 @@ use Rattle.std.proofs.Common.{◌≡◌, ◌∙◌, ap, arith, refl, rules, subs
 use Rattle.std.proofs.lemmas.List.{length-map}
 use Rattle.log_sources.specs.Sources.{str_bytes}
 use Rattle.write_commands.specs.IngestPrints.{came_of, names_of}
-use Rattle.command_answers.specs.Ingested.{FromArchive, TakesIn}
+use Rattle.command_answers.specs.Ingested.{FromArchive, TakesIn, TellsDamage}
 use Rattle.command_answers.specs.Known.{are_of, over}
 use Rattle.write_commands.specs.StepsKnown.{told_lawful}
 use Rattle.write_commands.specs.StepsCauses.{HaveFileCauses, logs_around}
@@ -12,6 +12,7 @@ use Rattle.write_commands.specs.declared.file_report.FileReport.{FileReport}
 use Rattle.write_commands.proofs.CameLemmas.{printed_all, printed_short, printed_some, refused_all}
 use Rattle.write_commands.proofs.CauseLemmas.{names_cause}
 use Rattle.write_commands.proofs.KnownLemmas.{tells_alike}
+use Rattle.write_commands.proofs.LentLemmas.{names_damage}
 use Rattle.write_commands.proofs.NameLemmas.{none_refused, one_refusal}
 use Rattle.command_refusals.proofs.GoingLemmas.{KeepsBytes-same}
 use Rattle.write_commands.proofs.StepsLemmas.{same_nothing}
@@ -21,7 +22,8 @@ pub returns-in-Some-clause-answers : goal.returns-in-Some-clause-answers
 returns-in-Some-clause-answers g c =
     let old = over g.B.Base.archive (g.D.Disk.state c.args.disk.now) (g.D.Disk.state c.args.disk.now) in
     let law = (g.met.D.Disk g.world.𝓛 g.world.𝓜 g.world.𝓡 ((λ s x. x), (λ x. x), (λ x. x), λ x. x)).lawful in
-    refused_all c.args.asked.workers c.args.asked.segment (map str_bytes c.args.asked.files.now) _ old old _ c.in-Some.refusal (rw (← c.refusal_of_add.ensures) c.report.ensures.status) (rw (← c.refusal_of_add.ensures) c.report.ensures.said) refl refl (names_cause (map str_bytes c.args.asked.files.now) old old c.in-Some.refusal c.in-Some.ensures) (same_nothing old (told_lawful _ _ (law c.args.disk.now)))
+    refused_all (TellsDamage (g.D.Disk.state c.args.disk.now) (g.D.Disk.state c.args.disk.now)) c.args.asked.workers c.args.asked.segment (map str_bytes c.args.asked.files.now) _ old old _ c.in-Some.refusal (rw (← c.refusal_of_add.ensures) c.report.ensures.status) (rw (← c.refusal_of_add.ensures) c.report.ensures.said) refl refl (names_cause (map str_bytes c.args.asked.files.now) old old c.in-Some.refusal c.in-Some.ensures) (same_nothing old (told_lawful _ _ (law c.args.disk.now)))
+    (names_damage (map str_bytes c.args.asked.files.now) _ _ c.in-Some.refusal c.in-Some.ensures)
 
 pub add_known-requires-clause-asked : goal.add_known-requires-clause-asked
 add_known-requires-clause-asked g c κs within = record {
@@ -34,7 +36,7 @@ returns-in_default-with_capacity-clause-answers g c =
     let old = over g.B.Base.archive (g.D.Disk.state c.args.disk.now) (g.D.Disk.state c.args.disk.now) in
     let law = (g.met.D.Disk g.world.𝓛 g.world.𝓜 g.world.𝓡 ((λ s x. x), (λ x. x), (λ x. x), λ x. x)).lawful in
     let said = c.report-in_default-with_capacity.ensures in
-    refused_all c.args.asked.workers c.args.asked.segment (map str_bytes c.args.asked.files.now) _ old old _ OutOfMemory said.status said.said refl refl tt (same_nothing old (told_lawful _ _ (law c.args.disk.now)))
+    refused_all (TellsDamage (g.D.Disk.state c.args.disk.now) (g.D.Disk.state c.args.disk.now)) c.args.asked.workers c.args.asked.segment (map str_bytes c.args.asked.files.now) _ old old _ OutOfMemory said.status said.said refl refl tt (same_nothing old (told_lawful _ _ (law c.args.disk.now))) tt
 
 pub returns-in-Ok-print_directory-clause-answers : goal.returns-in-Ok-print_directory-clause-answers
 returns-in-Ok-print_directory-clause-answers g c =
@@ -42,10 +44,10 @@ returns-in-Ok-print_directory-clause-answers g c =
     let new = over g.B.Base.archive (g.D.Disk.state c.args.disk.now) (g.D.Disk.state c.add_known.new.disk) in
     let files = c.as_slice.ensures.value in
     let numbered = subst (λ n. OverJournal old.seen (λ journal. n ≡ length journal.names)) (sym c.from.ensures) c.in-Ok-add_known.ensures.added.number in
-    let caused = subst (λ (fs : List FileReport). HaveFileCauses (logs_around g.H.Shelf.open_faults g.H.Shelf.read_faults c.args.shelf.now c.add_known.new.shelf) c.args.asked.workers c.args.asked.segment old new (map (came_of (g.H.Shelf.content c.args.shelf.now)) fs)) (sym files) c.in-Ok-add_known.ensures.added.causes in
+    let caused = subst (λ (fs : List FileReport). HaveFileCauses (logs_around g.H.Shelf.unread g.H.Shelf.open_faults g.H.Shelf.read_faults c.args.shelf.now c.add_known.new.shelf) c.args.asked.workers c.args.asked.segment old new (map (came_of (g.H.Shelf.content c.args.shelf.now)) fs)) (sym files) c.in-Ok-add_known.ensures.added.causes in
     let taken = subst (λ (fs : List FileReport). FromArchive old (λ h before bytes stood. TakesIn c.args.asked.segment h before stood (map str_bytes c.args.asked.files.now) (map (came_of (g.H.Shelf.content c.args.shelf.now)) fs) old new)) (sym files) c.in-Ok-add_known.ensures.added.taken in
     let told = c.as_slice-in-Ok-print_directory.ensures.value in
-    printed_all c.one_list_of_parts.ensures.one c.args.asked.workers c.args.asked.segment (map str_bytes c.args.asked.files.now) _ old new (tells_alike (are_of g.B.Base.archive (g.D.Disk.state c.args.disk.now).seen) (g.D.Disk.state c.args.disk.now) (g.D.Disk.state c.add_known.new.disk) c.add_known.ensures.goes_on.tells) c.from.result c.as_slice.result.now (ap names_of files ∙ c.in-Ok-add_known.ensures.added.names) numbered taken caused _
+    printed_all c.one_list_of_parts.ensures.one c.args.asked.workers c.args.asked.segment (map str_bytes c.args.asked.files.now) _ old new (tells_alike (are_of g.B.Base.archive (g.D.Disk.state c.args.disk.now).seen) (g.D.Disk.state c.args.disk.now) (g.D.Disk.state c.add_known.new.disk) c.add_known.ensures.goes_on.tells) c.from.result c.as_slice.result.now (ap names_of files ∙ c.in-Ok-add_known.ensures.added.names) numbered taken caused (TellsDamage (g.D.Disk.state c.args.disk.now) (g.D.Disk.state c.add_known.new.disk)) _
     c.as_slice-in-Ok-print_directory.result.now (told ∙ sym files) c.in-Ok-print_directory.ensures.ok c.report_taken.ensures.status c.report_taken.ensures.said c.in-Ok-print_directory.ensures.cause.steady
 
 pub returns-in-Err-SinkFault-clause-answers : goal.returns-in-Err-SinkFault-clause-answers
@@ -54,9 +56,9 @@ returns-in-Err-SinkFault-clause-answers g c =
     let new = over g.B.Base.archive (g.D.Disk.state c.args.disk.now) (g.D.Disk.state c.add_known.new.disk) in
     let files = c.as_slice.ensures.value in
     let numbered = subst (λ n. OverJournal old.seen (λ journal. n ≡ length journal.names)) (sym c.from.ensures) c.in-Ok-add_known.ensures.added.number in
-    let caused = subst (λ (fs : List FileReport). HaveFileCauses (logs_around g.H.Shelf.open_faults g.H.Shelf.read_faults c.args.shelf.now c.add_known.new.shelf) c.args.asked.workers c.args.asked.segment old new (map (came_of (g.H.Shelf.content c.args.shelf.now)) fs)) (sym files) c.in-Ok-add_known.ensures.added.causes in
+    let caused = subst (λ (fs : List FileReport). HaveFileCauses (logs_around g.H.Shelf.unread g.H.Shelf.open_faults g.H.Shelf.read_faults c.args.shelf.now c.add_known.new.shelf) c.args.asked.workers c.args.asked.segment old new (map (came_of (g.H.Shelf.content c.args.shelf.now)) fs)) (sym files) c.in-Ok-add_known.ensures.added.causes in
     let taken = subst (λ (fs : List FileReport). FromArchive old (λ h before bytes stood. TakesIn c.args.asked.segment h before stood (map str_bytes c.args.asked.files.now) (map (came_of (g.H.Shelf.content c.args.shelf.now)) fs) old new)) (sym files) c.in-Ok-add_known.ensures.added.taken in
-    printed_some c.one_list_of_parts.ensures.one c.args.asked.workers c.args.asked.segment (map str_bytes c.args.asked.files.now) _ old new (tells_alike (are_of g.B.Base.archive (g.D.Disk.state c.args.disk.now).seen) (g.D.Disk.state c.args.disk.now) (g.D.Disk.state c.add_known.new.disk) c.add_known.ensures.goes_on.tells) c.from.result c.as_slice.result.now (ap names_of files ∙ c.in-Ok-add_known.ensures.added.names) numbered taken caused _
+    printed_some c.one_list_of_parts.ensures.one c.args.asked.workers c.args.asked.segment (map str_bytes c.args.asked.files.now) _ old new (tells_alike (are_of g.B.Base.archive (g.D.Disk.state c.args.disk.now).seen) (g.D.Disk.state c.args.disk.now) (g.D.Disk.state c.add_known.new.disk) c.add_known.ensures.goes_on.tells) c.from.result c.as_slice.result.now (ap names_of files ∙ c.in-Ok-add_known.ensures.added.names) numbered taken caused (TellsDamage (g.D.Disk.state c.args.disk.now) (g.D.Disk.state c.add_known.new.disk)) _
     c.in-Err-SinkFault.ensures.err c.report-in-Err-SinkFault.ensures.status c.report-in-Err-SinkFault.ensures.said (search rules)
 
 pub returns-in-Ok-add_known-clause-answers : goal.returns-in-Ok-add_known-clause-answers
@@ -65,16 +67,16 @@ returns-in-Ok-add_known-clause-answers g c =
     let new = over g.B.Base.archive (g.D.Disk.state c.args.disk.now) (g.D.Disk.state c.add_known.new.disk) in
     let files = c.as_slice.ensures.value in
     let numbered = subst (λ n. OverJournal old.seen (λ journal. n ≡ length journal.names)) (sym c.from.ensures) c.in-Ok-add_known.ensures.added.number in
-    let caused = subst (λ (fs : List FileReport). HaveFileCauses (logs_around g.H.Shelf.open_faults g.H.Shelf.read_faults c.args.shelf.now c.add_known.new.shelf) c.args.asked.workers c.args.asked.segment old new (map (came_of (g.H.Shelf.content c.args.shelf.now)) fs)) (sym files) c.in-Ok-add_known.ensures.added.causes in
+    let caused = subst (λ (fs : List FileReport). HaveFileCauses (logs_around g.H.Shelf.unread g.H.Shelf.open_faults g.H.Shelf.read_faults c.args.shelf.now c.add_known.new.shelf) c.args.asked.workers c.args.asked.segment old new (map (came_of (g.H.Shelf.content c.args.shelf.now)) fs)) (sym files) c.in-Ok-add_known.ensures.added.causes in
     let taken = subst (λ (fs : List FileReport). FromArchive old (λ h before bytes stood. TakesIn c.args.asked.segment h before stood (map str_bytes c.args.asked.files.now) (map (came_of (g.H.Shelf.content c.args.shelf.now)) fs) old new)) (sym files) c.in-Ok-add_known.ensures.added.taken in
-    printed_short c.one_list_of_parts.ensures.one c.args.asked.workers c.args.asked.segment (map str_bytes c.args.asked.files.now) _ old new (tells_alike (are_of g.B.Base.archive (g.D.Disk.state c.args.disk.now).seen) (g.D.Disk.state c.args.disk.now) (g.D.Disk.state c.add_known.new.disk) c.add_known.ensures.goes_on.tells) c.from.result c.as_slice.result.now (ap names_of files ∙ c.in-Ok-add_known.ensures.added.names) numbered taken caused _
+    printed_short c.one_list_of_parts.ensures.one c.args.asked.workers c.args.asked.segment (map str_bytes c.args.asked.files.now) _ old new (tells_alike (are_of g.B.Base.archive (g.D.Disk.state c.args.disk.now).seen) (g.D.Disk.state c.args.disk.now) (g.D.Disk.state c.add_known.new.disk) c.add_known.ensures.goes_on.tells) c.from.result c.as_slice.result.now (ap names_of files ∙ c.in-Ok-add_known.ensures.added.names) numbered taken caused (TellsDamage (g.D.Disk.state c.args.disk.now) (g.D.Disk.state c.add_known.new.disk)) _
     c.in-Err-OutOfMemory.ensures.err (record { status_is = c.report-in-Err-OutOfMemory.ensures.status; said = c.report-in-Err-OutOfMemory.ensures.said }) (search rules)
 
 pub returns-clause-answers : goal.returns-clause-answers
 returns-clause-answers g c =
     let old = over g.B.Base.archive (g.D.Disk.state c.args.disk.now) (g.D.Disk.state c.args.disk.now) in
     let new = over g.B.Base.archive (g.D.Disk.state c.args.disk.now) (g.D.Disk.state c.add_known.new.disk) in
-    refused_all c.args.asked.workers c.args.asked.segment (map str_bytes c.args.asked.files.now) _ old new _ c.in-Err.refusal (rw (← c.refusal_of_add-in-Err.ensures) c.report-in-Err.ensures.status) (rw (← c.refusal_of_add-in-Err.ensures) c.report-in-Err.ensures.said) refl refl c.in-Err.ensures.refused.cause c.in-Err.ensures.refused.nothing
+    refused_all (TellsDamage (g.D.Disk.state c.args.disk.now) (g.D.Disk.state c.add_known.new.disk)) c.args.asked.workers c.args.asked.segment (map str_bytes c.args.asked.files.now) _ old new _ c.in-Err.refusal (rw (← c.refusal_of_add-in-Err.ensures) c.report-in-Err.ensures.status) (rw (← c.refusal_of_add-in-Err.ensures) c.report-in-Err.ensures.said) refl refl c.in-Err.ensures.refused.cause c.in-Err.ensures.refused.nothing c.in-Err.ensures.damaged
 
 -- ---- names that are refused by themselves
 

@@ -11,6 +11,7 @@ use Rattle.ingest_workers.specs.declared.job.Job.{Job}
 use Rattle.write_commands.proofs.FollowLemmas.{rests_same}
 use Rattle.write_commands.proofs.JobLemmas.{are_new, as_many, as_many_done, did_go_on}
 use Rattle.write_commands.proofs.PopLemmas.{lent_back, told_back}
+use Rattle.write_commands.proofs.CutLemmas.{all_cut, unbegun_cut}
 use Rattle.write_commands.proofs.FileCauseLemmas.{all_came, all_unbegun}
 use Rattle.write_commands.proofs.InTurnLemmas.{did_in_turn, unbegun_in_turn}
 use Rattle.write_commands.proofs.TakeInLemmas.{are_jobs_of, came_of_log, did_take_into, none_takes_into}
@@ -26,6 +27,7 @@ returns-in_default-clause-taken g c =
 pub returns-in_default-clause-causes : goal.returns-in_default-clause-causes
 returns-in_default-clause-causes g c = record {
   each = all_unbegun (g.H.Shelf.content c.args.shelf.now) _ _ _ _ c.refuse_all.new.taken.items c.refuse_all.ensures.begun;
+  cut = unbegun_cut (g.H.Shelf.content c.args.shelf.now) _ _ c.refuse_all.new.taken.items c.refuse_all.ensures.begun;
   in_turn = λ one. unbegun_in_turn (g.H.Shelf.content c.args.shelf.now) (into_journal (state_of c.args.journal) c.args.asked.segment c.args.named.first (map (came_of (g.H.Shelf.content c.args.shelf.now)) c.refuse_all.new.taken.items)) c.refuse_all.new.taken.items c.refuse_all.ensures.begun;
 }
 
@@ -114,7 +116,7 @@ returns-clause-causes g c =
     let openings = c.as_slice.ensures.value ∙ c.begin_jobs.ensures.openings in
     let counted = as_many_done _ _ _ _ _ c.args.journal c.do_jobs-journal.result c.as_mut_slice.result.now c.do_jobs-journal.new.jobs c.do_jobs-journal.ensures.did in
     let told = told_back (λ (jobs : List (Job _)) (i : ℕ) (file : FileReport). IsToldBy c.as_slice.result.now jobs i file) c.end_jobs.new.taken.items c.begin_jobs.new.jobs.len c.do_jobs-journal.new.jobs _ (omega (arith, counted, ap length is, c.begin_jobs.new.jobs.ok.0)) c.end_jobs.ensures.told in
-    let logs = logs_around g.H.Shelf.open_faults g.H.Shelf.read_faults c.args.shelf.now c.close_logs.new.shelf in
+    let logs = logs_around g.H.Shelf.unread g.H.Shelf.open_faults g.H.Shelf.read_faults c.args.shelf.now c.close_logs.new.shelf in
     let opens_later : (n : List ℕ) → g.H.Shelf.open_faults c.open_all.new.shelf n ≤ g.H.Shelf.open_faults c.close_logs.new.shelf n = λ n. omega (arith, c.close_logs.ensures.opens n) in
     let reads_sooner : (n : List ℕ) → g.H.Shelf.read_faults c.args.shelf.now n ≤ g.H.Shelf.read_faults c.open_all.new.shelf n = λ n. omega (arith, c.open_all.ensures.reads n) in
     let reads_later : (n : List ℕ) → g.H.Shelf.read_faults c.close_logs.new.shelf n ≤ g.H.Shelf.read_faults c.close_logs.new.shelf n = λ n. omega arith in
@@ -127,6 +129,10 @@ returns-clause-causes g c =
           c.args.journal c.do_jobs-journal.result (map (came_of (g.H.Shelf.content c.args.shelf.now)) c.end_jobs.new.taken.items) c.args.asked.segment c.args.named.first c.as_mut_slice.result.now c.do_jobs-journal.new.jobs of each
           (law _) c.args.asked.workers c.do_jobs-journal.ensures.did c.end_jobs.new.sources.items
           (c.end_jobs.ensures.sources ∙ ap sources_of (lent_back c.begin_jobs.new.jobs.len c.do_jobs-journal.new.jobs _ (omega (arith, counted, ap length is, c.begin_jobs.new.jobs.ok.0)))) c.close_logs.ensures.counted;
+      cut = all_cut g.H.Src.Source.left g.H.Src.Source.name g.H.Src.Source.faults (g.H.Shelf.open_faults c.args.shelf.now) (g.H.Shelf.open_faults c.open_all.new.shelf)
+          c.args.journal c.do_jobs-journal.result (map (came_of (g.H.Shelf.content c.args.shelf.now)) c.end_jobs.new.taken.items) c.args.asked.segment c.as_mut_slice.result.now c.do_jobs-journal.new.jobs each c.end_jobs.new.sources.items
+          (c.end_jobs.ensures.sources ∙ ap sources_of (lent_back c.begin_jobs.new.jobs.len c.do_jobs-journal.new.jobs _ (omega (arith, counted, ap length is, c.begin_jobs.new.jobs.ok.0)))) (g.H.Shelf.unread c.open_all.new.shelf) (g.H.Shelf.unread c.close_logs.new.shelf) c.close_logs.ensures.unread
+          c.args.asked.workers c.do_jobs-journal.ensures.did;
       in_turn = did_in_turn g.H.Src.Source.left g.H.Src.Source.name g.H.Src.Source.faults (g.H.Shelf.open_faults c.args.shelf.now) (g.H.Shelf.open_faults c.open_all.new.shelf)
           c.args.journal (map (came_of (g.H.Shelf.content c.args.shelf.now)) c.end_jobs.new.taken.items) c.args.asked.segment c.args.named.first c.as_mut_slice.result.now c.do_jobs-journal.new.jobs of each
           c.do_jobs-journal.result c.args.asked.workers c.do_jobs-journal.ensures.did;

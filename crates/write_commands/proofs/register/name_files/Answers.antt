@@ -1,4 +1,4 @@
-use Rattle.std.proofs.Common.{inl, inr, ap, arith, length, map, MutBor}
+use Rattle.std.proofs.Common.{inl, inr, ap, arith, length, map, MutBor, subst, sym}
 use Rattle.std.proofs.lemmas.List.{length-map}
 use Rattle.std.proofs.lemmas.Result.{err_from_is_err_and}
 use Rattle.record_format.specs.Header.{header_bytes}
@@ -6,8 +6,9 @@ use Rattle.disk_journal.specs.Journal.{state_of}
 use Rattle.disk_journal.specs.Place.{BeforeOrAfter}
 use Rattle.ingest_meaning.specs.Room.{files_record}
 use Rattle.log_sources.specs.Sources.{str_bytes}
+use Rattle.write_commands.specs.StepsKnown.{IsNoDamage}
 use Rattle.write_commands.proofs.AppendLemmas.{is_named, may_add, names_more}
-use Rattle.write_commands.proofs.CauseLemmas.{many_cause, refused_with, register_cause}
+use Rattle.write_commands.proofs.CauseLemmas.{many_cause, refused_with, register_cause, register_undamaged, undamaged_with}
 use Rattle.file_lines.proofs.DirectoryLemmas.{on_err}
 use Rattle.write_commands.proofs.RegisterLemmas.{ended_alone, from_named, not_named}
 use Rattle.write_commands.proofs.StepsLemmas.{same_nothing}
@@ -114,3 +115,16 @@ returns-in_err-first-clause-cause g c =
     (register_cause (map str_bytes c.args.names.now) (state_of c.args.journal.now) (state_of c.register.new.journal) c.args.holding.types c.args.holding.words c.args.holding.files c.requires.held
     (omega (arith, c.in_default.ensures, length-map c.args.names.now str_bytes))
     c.register.result c.in_err-first.field-0.0 c.in_err-first.was (λ end need e. rw (c.in_ok-texts.ensures) at (named.full end need e).0) named.counts)
+
+pub returns-in_err-texts-clause-undamaged : goal.returns-in_err-texts-clause-undamaged
+returns-in_err-texts-clause-undamaged g c =
+    let p = err_from_is_err_and c.from_residual.result c.from_residual.ensures.1 in
+    undamaged_with c.from_residual.result p.0 _ p.1 p.2 tt
+
+pub returns-in_err-first-clause-undamaged : goal.returns-in_err-first-clause-undamaged
+returns-in_err-first-clause-undamaged g c =
+    let p = err_from_is_err_and c.from_residual-in_err-first.result c.from_residual-in_err-first.ensures.1 in
+    undamaged_with c.from_residual-in_err-first.result p.0 _ p.1 p.2 (register_undamaged c.in_err-first.field-0.0)
+
+pub returns-in-Some-clause-undamaged : goal.returns-in-Some-clause-undamaged
+returns-in-Some-clause-undamaged g c = subst IsNoDamage (sym c.in-Some.ensures.0) tt
