@@ -191,12 +191,12 @@ add_founded-answer-requires-clause-held g c κs within = λ name.
       ends = c.in_ok-archive.ensures.at_end;
     } in
     let tells = g.L.Lent.tells in
-    let from = λ name. from_any tells name (state_of c.begin-journal.result) (state_of c.open_for_append.new.journal) _ any
+    let from = from_any tells name (state_of c.begin-journal.result) (state_of c.open_for_append.new.journal) _ any
     (λ told. subst (λ d. IfSome (g.D.Disk.state d).seen IsArchive) same (subst (λ t. IfSome t IsArchive) (sym seen) (c.requires.archive told))) in
     let books = c.into_books.ensures in
     let hold = c.hold-holding.ensures in
     let first = subst (λ d. Opens (g.D.Disk.state d).seen (shown kept_by c.in_ok-first.first)) same (subst (λ t. Opens t (shown kept_by c.in_ok-first.first)) (sym seen) c.in_ok-first.ensures.opened) in
-    rw (hold.types) (rw (hold.words) (rw (hold.files) (is_held (lent_state tells name (state_of c.begin-journal.result)) (lent_state tells name (state_of c.open_for_append.new.journal)) _ _ (from name)
+    rw (hold.types) (rw (hold.words) (rw (hold.files) (is_held (lent_state tells name (state_of c.begin-journal.result)) (lent_state tells name (state_of c.open_for_append.new.journal)) _ _ from
     (opens_told tells (g.D.Disk.state c.begin-journal.result.disk.now).seen _ first) c.into_books.result.types c.into_books.result.words
     (record { types_are = sym (ap (λ (k : Kept). k.types) books); words_are = sym (ap (λ (k : Kept). k.words) books); types_limit = sym (ap (λ (k : Kept). k.types_limit) books); words_limit = sym (ap (λ (k : Kept). k.words_limit) books) })
     (length c.as_slice.result.now) (ap length (c.as_slice.ensures ∙ c.files.ensures)))))
@@ -214,11 +214,11 @@ add_founded-answer-requires-clause-reader g c κs within = λ name.
       ends = c.in_ok-archive.ensures.at_end;
     } in
     let tells = g.L.Lent.tells in
-    let from = λ name. from_any tells name (state_of c.begin-journal.result) (state_of c.open_for_append.new.journal) _ any
+    let from = from_any tells name (state_of c.begin-journal.result) (state_of c.open_for_append.new.journal) _ any
     (λ told. subst (λ d. IfSome (g.D.Disk.state d).seen IsArchive) same (subst (λ t. IfSome t IsArchive) (sym seen) (c.requires.archive told))) in
     let made = c.new-reader.ensures in
     let now = lent_state tells name (state_of c.open_for_append.new.journal) in
-    may_begin g.K.Sink.written c.new-reader.result now (may_append (lent_state tells name (state_of c.begin-journal.result)) now _ (from name))
+    may_begin g.K.Sink.written c.new-reader.result now (may_append (lent_state tells name (state_of c.begin-journal.result)) now _ from)
     _ (opens_told tells (g.D.Disk.state c.open_for_append.new.journal.disk.now).seen _ (subst (λ t. Opens t (shown kept_by c.in_ok-archive.archive)) (sym opened.looks.rests.seen) c.in_ok-archive.ensures.opened)) c.in_ok-archive.ensures.entries made.first made.handled made.runs made.stands
 
 -- ---- the logs were added
@@ -256,7 +256,7 @@ returns-in-Ok-clause-added g c =
     let came = map (came_of content) files in
     let tells = g.L.Lent.tells in
     let last = g.D.Disk.state c.add_founded-answer.result.1.now in
-    let back = c.disk-in-Ok-1.given.1 (sym (done.back ∙ (opened.looks.name ∙ c.begin-journal.ensures.name))) in
+    let back = c.disk-2-1.given.1 (sym (done.back ∙ (opened.looks.name ∙ c.begin-journal.ensures.name))) in
     let seen = c.start.ensures.keeps.seen ∙ c.open_archive.ensures.keeps.seen in
     let any : OpensAny (state_of c.begin-journal.result) (state_of c.open_for_append.new.journal) _ = record {
       begins = subst (λ h. BeginsWith h (g.D.Disk.state c.begin-journal.result.disk.now)) (sym c.begin-journal.ensures.header) (subst (λ d. BeginsWith c.in_ok-header.header (g.D.Disk.state d)) same c.in_ok-header.ensures.begins);
@@ -265,10 +265,10 @@ returns-in-Ok-clause-added g c =
       header = c.in_ok-archive.ensures.header;
       ends = c.in_ok-archive.ensures.at_end;
     } in
-    let from = λ name. from_any tells name (state_of c.begin-journal.result) (state_of c.open_for_append.new.journal) _ any
+    let from = from_any tells 0 (state_of c.begin-journal.result) (state_of c.open_for_append.new.journal) _ any
     (λ told. subst (λ d. IfSome (g.D.Disk.state d).seen IsArchive) same (subst (λ t. IfSome t IsArchive) (sym seen) (c.requires.archive told))) in
     let now = lent_state tells 0 (state_of c.open_for_append.new.journal) in
-    let may = may_append (lent_state tells 0 (state_of c.begin-journal.result)) now _ (from 0) in
+    let may = may_append (lent_state tells 0 (state_of c.begin-journal.result)) now _ from in
     let looked = looked_told tells old mid end (looked_end old mid late end twice) in
     let adds = subst (λ r. IfOk r (λ first. AddsNewLogs content logs c.args.asked first files (told_if tells end) (told_if tells last))) c.in-Ok.is done.added in
     let follows = subst (λ r. OnOk r (Follows (live_follower written begun) (live_follower written w) c.args.asked.segment names came (told_if tells end) (told_if tells last))) c.in-Ok.is done.followed in
@@ -305,7 +305,7 @@ returns-in-Ok-clause-goes_on g c =
       counts = opened.counts.later;
     } in
     let done = c.add_founded-answer.ensures in
-    let back = c.disk-in-Ok-1.given.1 (sym (done.back ∙ (opened.looks.name ∙ c.begin-journal.ensures.name))) in
+    let back = c.disk-2-1.given.1 (sym (done.back ∙ (opened.looks.name ∙ c.begin-journal.ensures.name))) in
     subst (λ d. DiskGoesOn old (g.D.Disk.state d)) (sym back) (DiskGoesOn-joined old end _ (law _) (twice_goes old mid late end twice) done.goes_on)
 
 pub returns-in-Ok-clause-later : goal.returns-in-Ok-clause-later
@@ -370,7 +370,7 @@ returns-in-Err-clause-refused g c =
       counts = opened.counts.later;
     } in
     let done = c.add_founded-answer.ensures in
-    let back = c.disk-in-Err-1.given.1 (sym (done.back ∙ (opened.looks.name ∙ c.begin-journal.ensures.name))) in
+    let back = c.disk-2-1.given.1 (sym (done.back ∙ (opened.looks.name ∙ c.begin-journal.ensures.name))) in
     let tells = g.L.Lent.tells in
     let last = g.D.Disk.state c.add_founded-answer.result.1.now in
     let refuses = subst (λ r. IfErr r (RefusesNewLogs c.args.asked (told_if tells end) (told_if tells last))) c.in-Err.is done.refused in
@@ -410,7 +410,7 @@ returns-in-Err-clause-goes_on g c =
       counts = opened.counts.later;
     } in
     let done = c.add_founded-answer.ensures in
-    let back = c.disk-in-Err-1.given.1 (sym (done.back ∙ (opened.looks.name ∙ c.begin-journal.ensures.name))) in
+    let back = c.disk-2-1.given.1 (sym (done.back ∙ (opened.looks.name ∙ c.begin-journal.ensures.name))) in
     subst (λ d. DiskGoesOn old (g.D.Disk.state d)) (sym back) (DiskGoesOn-joined old end _ (law _) (twice_goes old mid late end twice) done.goes_on)
 
 pub returns-in-Err-clause-later : goal.returns-in-Err-clause-later

@@ -9,7 +9,7 @@ use Rattle.write_commands.proofs.KnownLemmas.{tells_alike}
 use Rattle.write_commands.proofs.NameLemmas.{none_refused}
 use Rattle.watch_command.specs.StepsWatched.{AddsWatched}
 use Rattle.watch_command.proofs.BehindLemmas.{watches_came}
-use Rattle.watch_command.proofs.RefusedLemmas.{memory_ended, names_refused, refused_whole}
+use Rattle.watch_command.proofs.RefusedLemmas.{answers_refused, memory_ended, names_refused}
 use Rattle.watch_command.proofs.watch.watch_pattern.Goals as goal
 
 -- ---- before the archive is touched
@@ -63,15 +63,12 @@ returns-in-Ok-add_known-clause-answers g c =
 
 pub returns-clause-answers : goal.returns-clause-answers
 returns-clause-answers g c =
-    let old = over g.B.Base.archive (g.D.Disk.state c.args.disk.now) (g.D.Disk.state c.args.disk.now) in
-    let new = over g.B.Base.archive (g.D.Disk.state c.args.disk.now) (g.D.Disk.state c.add_known.new.disk) in
     let names = map str_bytes c.args.asked.files.now in
-    record {
-      names_first = λ refusal refused. absurd (none_refused names refusal (rw (c.in_default.is) at c.refuse_names.ensures) refused);
-      ends = inl (refused_whole names _ old new _ c.in-Err.refusal (record {
-        ends = record { status_is = rw (← c.refusal_of_add-in-Err.ensures) c.report-in-Err.ensures.status; said = rw (← c.refusal_of_add-in-Err.ensures) c.report-in-Err.ensures.said };
-        nothing = ap g.K.Sink.written c.in-Err.ensures.rests;
-        sink = ap g.K.Sink.faults c.in-Err.ensures.rests;
-      }) c.in-Err.ensures.refused.cause c.in-Err.ensures.refused.nothing);
-      damaged = c.in-Err.ensures.damaged;
-    }
+    answers_refused g.B.Base.archive c.args.asked.workers c.args.asked.segment c.args.pattern names _ (g.D.Disk.state c.args.disk.now) (g.D.Disk.state c.add_known.new.disk) _ c.in-Err.refusal
+    (λ refusal refused. absurd (none_refused names refusal (rw (c.in_default.is) at c.refuse_names.ensures) refused))
+    (record {
+      ends = record { status_is = rw (← c.refusal_of_add-in-Err.ensures) c.report-in-Err.ensures.status; said = rw (← c.refusal_of_add-in-Err.ensures) c.report-in-Err.ensures.said };
+      nothing = ap g.K.Sink.written c.in-Err.ensures.rests;
+      sink = ap g.K.Sink.faults c.in-Err.ensures.rests;
+    })
+    c.in-Err.ensures.refused.cause c.in-Err.ensures.refused.nothing c.in-Err.ensures.damaged
