@@ -67,10 +67,11 @@ fn lay_stamp(
         }
         return None;
     }
-    let Some(front) = out.first_chunk_mut::<WIDTH>() else {
-        unreachable!();
+    let mut text = [0; WIDTH];
+    let Some(len) = printer.print_front(pattern, moment, &mut text) else {
+        return None;
     };
-    printer.print_front(pattern, moment, front)
+    Some(put_front(out, 0, &text, len))
 }
 
 // Puts behind the first `at` bytes what a log type is written as with these words in its slots, where
@@ -218,12 +219,7 @@ fn lay_decimal(word: u64, out: &mut [u8; ROOM], at: usize) -> Result<usize, NotL
 
 // Puts so many bytes of the front of a text to a place, and gives the end.
 #[inline(always)]
-fn lay_front(
-    out: &mut [u8; ROOM],
-    at: usize,
-    text: &[u8],
-    len: usize,
-) -> Result<usize, NotLaid>
+fn lay_front(out: &mut [u8; ROOM], at: usize, text: &[u8], len: usize) -> Result<usize, NotLaid>
     requires within { len ≤ length text.now }
     requires at { at ≤ 1024 }
     ensures within { IfOk result (λ end. end ≤ 1024) }
