@@ -10,7 +10,7 @@ ghost use Rattle.query_plan.specs.Pieces.{wide_pieces};
 ghost use Rattle.query_plan.specs.declared.pieces.Piece.{Piece};
 ghost use Rattle.subquery_filter.specs.declared.filter.Filter.{Filter};
 ghost use Rattle.subquery_filter.specs.declared.slots.Slot.{Slot};
-ghost use Rattle.subquery_filter.specs.Filter.{AreCoded, AreMarks, AreSmall, AreStamps, AreTold, AsksTypes, Has, HasNoMatch, IsFilter, IsRowVerdict, IsTold, LacksAll, MarksVariable, StampMarks, beside_of, slot_may};
+ghost use Rattle.subquery_filter.specs.Filter.{AreCoded, AreMarks, AreStamps, AreTold, AsksTypes, Has, HasNoMatch, IsFilter, IsRowVerdict, IsTold, LacksAll, MarksVariable, StampMarks, TellsSmall, beside_of, slot_may};
 ghost use Rattle.subquery_filter.specs.declared.verdicts.Verdict.TheVariants.{Certain};
 ghost use Rattle.subquery_filter.specs.Found.{HaveAll};
 ghost use Rattle.subquery_filter.specs.Page.{IsPage};
@@ -21,11 +21,12 @@ use crate::bits::{any_of, has, mark_at};
 use crate::laws::{rows_bring_chunks, rows_bring_runs, verdicts_hold};
 use crate::marks::WordMarks;
 use crate::needles::{lists_with, texts_of};
-use crate::numbers::{decimal_bits, has_open, kind_bits, mark_small, whole_bits};
+use crate::numbers::{decimal_bits, kind_bits, whole_bits};
 use crate::run::Run;
 use crate::run_stamps::{mark_runs, runs_within};
 use crate::shared::PageTests;
-use crate::slots::{Beside, Question, Slot, TypeTest, has_kind, test_types};
+use crate::slots::{Beside, Question, Slot, TypeTest, test_types};
+use crate::small::{SmallNumbers, small_needed};
 use crate::stamps::{bits_within, mark_stamps, stamp_bits};
 use crate::token::Token;
 use crate::tokens::{all_bits, stored_text, tokens_of};
@@ -64,8 +65,8 @@ pub struct Filter {
     brought: u8,
     /// The bits that numbers may bring.
     numbers: u8,
-    /// The bits of small whole numbers, where a slot of a whole number is listed.
-    small: Vec<u8>,
+    /// What is told of whole numbers by their words.
+    small: SmallNumbers,
     /// The bits that stamps may bring, by the numbers of their patterns, and those of all patterns.
     stamps: Vec<u8>,
     stamped: u8,
@@ -88,18 +89,6 @@ fn bits_of_list(marks: &WordMarks, numbers: &[u32]) -> u8
         bits |= marks.at(u64::from(*number));
     }
     bits
-}
-
-/// The bits of small whole numbers where a slot of a whole number is listed, and a token may stand in its
-/// digits; and none otherwise.
-fn small_needed(alloc: Global, slots: &[Slot], tokens: &[Token]) -> Result<Vec<u8>, AllocError>
-    ensures { IfOk result (λ small. AreSmall tokens.now small.items) }
-{
-    if !has_kind(slots, Kind::Whole) || !has_open(tokens) {
-        return Ok(Vec::new(alloc));
-    }
-    let small = mark_small(alloc, tokens)?;
-    Ok(small)
 }
 
 /// The longest run of literal bytes of the pattern that a search is planned over, as log types store
@@ -134,6 +123,7 @@ impl Filter {
         let runs = runs_of(alloc, pieces)?;
         let run_stamps = mark_runs(alloc, runs.as_slice())?;
         let run_stamped = any_of(run_stamps.as_slice());
+        let small = SmallNumbers::none(alloc);
         Ok(Filter {
             tokens,
             wanted,
@@ -144,7 +134,7 @@ impl Filter {
             marks: WordMarks::none(alloc),
             brought: wanted,
             numbers: kinds.whole | kinds.decimal,
-            small: Vec::new(alloc),
+            small,
             stamps,
             stamped,
             runs,
@@ -315,14 +305,14 @@ impl Filter {
     fn variable_bits(&self, kind: Kind, word: u64) -> u8
         ensures { (words : List (List ℕ)) (variable : List ℕ)
             → (kind ≡ Word → AreMarks self.now.tokens.items words self.now.marks)
-            → AreSmall self.now.tokens.items self.now.small.items
+            → TellsSmall self.now.tokens.items self.now.small
             → AreCoded self.now.tokens.items → HasWord words kind variable word
             → MarksVariable self.now.tokens.items variable result }
     {
         match kind {
             Kind::Word => self.marks.at(word),
-            Kind::Whole => whole_bits(self.tokens.as_slice(), self.small.as_slice(), word),
-            Kind::Decimal => decimal_bits(self.tokens.as_slice(), self.small.as_slice(), word),
+            Kind::Whole => whole_bits(self.tokens.as_slice(), &self.small, word),
+            Kind::Decimal => decimal_bits(self.tokens.as_slice(), &self.small, word),
         }
     }
 
@@ -338,6 +328,17 @@ impl Filter {
         }
     }
 
+    /// The bits that a row may bring by a slot. By one of a word it brings no more than words do.
+    #[inline]
+    fn may_bring(&self, slot: Slot) -> u8
+        ensures { (all : ℕ) → Has all result → (word : ℕ) → SlotGives self.now slot word all }
+    {
+        match slot.kind {
+            Kind::Word => slot.bits & self.brought,
+            Kind::Whole | Kind::Decimal => slot.bits,
+        }
+    }
+
     /// The bits that a row brings by the slot that is listed at a place, beyond those that it has.
     #[inline]
     fn slot_bits(&self, at: usize, words: &[u64], bits: u8) -> u8
@@ -346,7 +347,7 @@ impl Filter {
         let Some(slot) = self.slot_at(at) else {
             return 0;
         };
-        if has(bits, slot.bits) {
+        if has(bits, self.may_bring(slot)) {
             return 0;
         }
         self.word_bits(slot, words)

@@ -2,7 +2,7 @@ use Rattle.std.proofs.Common.{List, rules, subst, sym}
 use Rattle.subquery_filter.specs.declared.run.Run.{Run}
 use Rattle.subquery_filter.specs.declared.slots.Beside.{Beside}
 use Rattle.subquery_filter.specs.declared.token.Token.{Token}
-use Rattle.subquery_filter.specs.Filter.{AreAlone, AreCoded, AreSmall, AreTests}
+use Rattle.subquery_filter.specs.Filter.{AreAlone, AreCoded, AreTests, TellsSmall}
 use Rattle.subquery_filter.proofs.ClosedLemmas.{are_coded}
 use Rattle.subquery_filter.proofs.MarkLemmas.{asks_ok, filters_ok, told_none}
 use Rattle.subquery_filter.proofs.filter.Filter.ask.Goals as goal
@@ -25,7 +25,7 @@ returns-clause-asks g c = asks_ok c.args.plan.now (g.N.Names.types c.args.names.
       told = told_none _ _ (search rules);
       brought = a.brought;
       numbers = a.numbers;
-      small = subst (λ (l : List Token). AreSmall l c.in_ok-small.small.items) looked c.in_ok-small.ensures;
+      small = subst (λ (l : List Token). TellsSmall l c.in_ok-small.small) looked c.in_ok-small.ensures;
       stamps = a.stamps;
       stamped = a.stamped;
       runs = a.runs;
@@ -54,7 +54,7 @@ returns-clause-filter g c = filters_ok c.args.plan.now (g.N.Names.types c.args.n
         told = told_none _ _ (search rules);
         brought = a.brought;
         numbers = a.numbers;
-        small = subst (λ (l : List Token). AreSmall l c.in_ok-small.small.items) looked c.in_ok-small.ensures;
+        small = subst (λ (l : List Token). TellsSmall l c.in_ok-small.small) looked c.in_ok-small.ensures;
         stamps = a.stamps;
         stamped = a.stamped;
         runs = a.runs;
