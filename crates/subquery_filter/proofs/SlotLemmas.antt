@@ -21,7 +21,7 @@ use Rattle.subquery_filter.specs.StepsLetters.{kind_at, kind_before, kinds_in}
 use Rattle.subquery_filter.proofs.BitLemmas.{has_and, has_left, has_right, has_self, has_through}
 use Rattle.subquery_filter.proofs.FilterLemmas.{push_got, push_last, slot_stays}
 use Rattle.subquery_filter.proofs.LetterLemmas.{other_byte, same_byte}
-use Rattle.subquery_filter.proofs.TokenLemmas.{kinds_slot}
+use Rattle.subquery_filter.proofs.TokenLemmas.{kinds_byte, kinds_slot}
 
 -- ---- a text that no symbol begins
 
@@ -115,6 +115,22 @@ listed_slot bits text rest after place first known kind symbol old new is same s
   where
     same_kinds : (o : Option Kind) (a b : Kind) → o ≡ Some a → o ≡ Some b → a ≡ b
     same_kinds o a b one two = cc (one, two)
+
+-- the same behind constants that stand there as they are
+pub listed_past : (bits : KindBits) (text rest past : List ℕ) (place first known : ℕ) (slots : List Slot) → kinds_in false past ≡ kinds_in false rest → length past ≤ length rest
+    → ListedUpTo bits text rest place first known slots → ListedUpTo bits text past place first known slots
+listed_past bits text rest past place first known slots same shorter h =
+    record { left = same ∙ h.left; room = omega (arith, shorter, h.room); listed = h.listed }
+
+-- and behind a constant
+pub listed_byte : (bits : KindBits) (text rest after : List ℕ) (place first known : ℕ) (symbol : Symbol) (slots : List Slot) → rest ≡ text_of_symbol symbol ++ after → ((kind : Kind) → symbol ≢ SlotSymbol kind)
+    → ListedUpTo bits text rest place first known slots → ListedUpTo bits text after place first known slots
+listed_byte bits text rest after place first known (Byte b) slots is other h = record {
+  left = sym (kinds_byte b after) ∙ ap (kinds_in false) (sym is) ∙ h.left;
+  room = let longer = symbol_longer (Byte b) after in omega (arith, ap length is, longer, h.room);
+  listed = h.listed;
+}
+listed_byte bits text rest after place first known (SlotSymbol kind) slots is other h = absurd (other kind refl)
 
 pub listed_all : (bits : KindBits) (text rest : List ℕ) (place first known : ℕ) (slots : List Slot) → ((symbol : Symbol) (after : List ℕ) → rest ≢ text_of_symbol symbol ++ after) → ListedUpTo bits text rest place first known slots
     → (tokens : List Token) → AreKindBits tokens bits → AreSlots tokens text slots first (length slots) known
@@ -261,24 +277,3 @@ number_bits tokens kinds are Word other words variable word is j d lt finds = ab
 number_bits tokens kinds are Whole other words variable word is j d lt finds = has_left kinds.whole kinds.decimal _ (are.whole words variable word is j d lt finds)
 number_bits tokens kinds are Decimal other words variable word is j d lt finds =
     has_through (bit_or kinds.whole kinds.decimal) kinds.decimal _ (has_right kinds.whole kinds.decimal) (are.decimal words variable word is j d lt finds)
-
--- these bits, and those that variables may bring
-pub kinds_more : (kinds : KindBits) (known : ℕ) → Has (bit_or (bit_or (bit_or known kinds.whole) kinds.decimal) kinds.word) known
-kinds_more kinds known =
-    let one : ℕ = bit_or known kinds.whole in
-    let two : ℕ = bit_or one kinds.decimal in
-    has_left two kinds.word known (has_left one kinds.decimal known (has_left known kinds.whole known (has_self known)))
-
-pub kinds_with : (tokens : List Token) (kinds : KindBits) (known : ℕ) → AreKindBits tokens kinds → (kind : Kind) → Covers tokens kind (bit_or (bit_or (bit_or known kinds.whole) kinds.decimal) kinds.word)
-kinds_with tokens kinds known are Whole words variable word is j d lt finds =
-    let one : ℕ = bit_or known kinds.whole in
-    let two : ℕ = bit_or one kinds.decimal in
-    has_left two kinds.word _ (has_left one kinds.decimal _ (has_through one kinds.whole _ (has_right known kinds.whole) (are.whole words variable word is j d lt finds)))
-kinds_with tokens kinds known are Decimal words variable word is j d lt finds =
-    let one : ℕ = bit_or known kinds.whole in
-    let two : ℕ = bit_or one kinds.decimal in
-    has_left two kinds.word _ (has_through two kinds.decimal _ (has_right one kinds.decimal) (are.decimal words variable word is j d lt finds))
-kinds_with tokens kinds known are Word words variable word is j d lt finds =
-    let one : ℕ = bit_or known kinds.whole in
-    let two : ℕ = bit_or one kinds.decimal in
-    has_through (bit_or two kinds.word) kinds.word _ (has_right two kinds.word) (are.word words variable word is j d lt finds)

@@ -16,14 +16,14 @@ ghost use Rattle.subquery_filter.specs.Found.{HaveAll};
 ghost use Rattle.subquery_filter.specs.Page.{IsPage};
 ghost use Rattle.subquery_filter.specs.StepsFilter.{HasEach, IsShut, Lacks, LacksStamp, LacksTokens, RunsBring, SlotGives, SlotIs, StampsBring};
 
-use crate::alone::runs_of;
+use crate::alone::{run_bits, runs_of};
 use crate::bits::{any_of, has, mark_at};
 use crate::laws::{rows_bring_chunks, rows_bring_runs, verdicts_hold};
 use crate::marks::WordMarks;
 use crate::needles::{lists_with, texts_of};
 use crate::numbers::{decimal_bits, kind_bits, whole_bits};
 use crate::run::Run;
-use crate::run_stamps::{mark_runs, runs_within};
+use crate::run_stamps::{mark_runs, runs_within, stamp_runs};
 use crate::shared::PageTests;
 use crate::slots::{Beside, Question, Slot, TypeTest, test_types};
 use crate::small::{SmallNumbers, small_needed};
@@ -248,14 +248,16 @@ impl Filter {
             → IsFilter plan.now (N.types names.now) words f) }
     {
         let looked = self.tokens.as_slice();
-        let run = longest_run(alloc, plan)?;
+        let runs = self.runs.as_slice();
+        let longest = longest_run(alloc, plan)?;
         let question = Question {
             kinds: kind_bits(looked),
             beside: self.beside(),
-            run: Finder::new(run.as_slice()),
+            longest: Finder::new(longest.as_slice()),
+            tokens: all_bits(looked),
+            runs: run_bits(runs),
             stamped: self.run_stamped,
         };
-        let runs = self.runs.as_slice();
         let mut slots = Vec::new(alloc);
         let mut tests = Vec::new(alloc);
         let mut alone = Vec::new(alloc);
@@ -461,20 +463,48 @@ impl Filter {
         self.verdicts.get(number as usize).copied()
     }
 
-    /// Whether a row does not bring all tokens. Where its log type and all stamps of the page bring
-    /// them, neither its variables nor its stamp are looked at.
+    /// Whether a run that the row's log type leaves to stamps does not stand in the row's own, which is
+    /// printed.
+    #[inline]
+    fn lacks_own_run(&self, row: RowRef<'_>, page: &mut PageTests) -> bool
+        ensures lacks { IsTrue result → LacksStamp self.now (row_of row.entry) }
+        ensures kept { page.new.spans ≡ page.old.spans }
+    {
+        let alone = self.alone_at(u64::from(row.log_type));
+        if alone == 0 {
+            return false;
+        }
+        let own = mark_at(self.run_stamps.as_slice(), u64::from(row.pattern));
+        let bits = stamp_runs(
+            self.runs.as_slice(),
+            own,
+            row.pattern,
+            row.moment,
+            &mut page.printer,
+        );
+        !has(bits, alone)
+    }
+
+    /// Whether a row does not bring all tokens, or a run that its log type leaves to stamps. Where all
+    /// stamps of the page bring the tokens, neither its variables nor its stamp are looked at; and where
+    /// its log type brings them, its variables are not.
     #[inline]
     fn lacks_tokens(&self, row: RowRef<'_>, page: &mut PageTests) -> bool
-        ensures lacks { IsTrue result → LacksTokens self.now (row_of row.entry) }
+        ensures lacks { IsTrue result → LacksStamp self.now (row_of row.entry)
+            ⊎ LacksTokens self.now (row_of row.entry) }
         ensures kept { page.new.spans ≡ page.old.spans }
     {
         let Some(test) = self.test_at(row.log_type) else {
             return false;
         };
-        if has(test.has | page.shared(row.pattern), self.wanted) {
+        let shared = page.shared(row.pattern);
+        if has(shared, self.wanted) {
             return false;
         }
-        self.lacks(&test, row, page)
+        if has(test.has, self.wanted) {
+            return self.lacks_own_run(row, page);
+        }
+        !has(test.has | shared, self.wanted) && self.lacks(&test, row, page)
     }
 
     /// Whether a run that the row's log type leaves to stamps stands in no stamp of the row's pattern, of the

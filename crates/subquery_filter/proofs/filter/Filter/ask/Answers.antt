@@ -20,7 +20,7 @@ returns-clause-asks g c = asks_ok c.args.plan.now (g.N.Names.types c.args.names.
       wanted = a.wanted;
       tests =
           subst (λ (x : Beside). AreTests c.args.plan.now c.args.self.tokens.items x types slots tests) c.beside.ensures
-          (subst (λ (l : List Token). AreTests c.args.plan.now l c.beside.result types slots tests) looked (c.in_ok-test_types.ensures.tests (c.kind_bits.ensures coded)));
+          (subst (λ (l : List Token). AreTests c.args.plan.now l c.beside.result types slots tests) looked (c.in_ok-test_types.ensures.tests c.all_bits.ensures.each (c.kind_bits.ensures coded)));
       needles = a.needles;
       told = told_none _ _ (search rules);
       brought = a.brought;
@@ -49,7 +49,7 @@ returns-clause-filter g c = filters_ok c.args.plan.now (g.N.Names.types c.args.n
         wanted = a.wanted;
         tests =
             subst (λ (x : Beside). AreTests c.args.plan.now c.args.self.tokens.items x types slots tests) c.beside.ensures
-            (subst (λ (l : List Token). AreTests c.args.plan.now l c.beside.result types slots tests) looked (c.in_ok-test_types.ensures.tests (c.kind_bits.ensures coded)));
+            (subst (λ (l : List Token). AreTests c.args.plan.now l c.beside.result types slots tests) looked (c.in_ok-test_types.ensures.tests c.all_bits.ensures.each (c.kind_bits.ensures coded)));
         needles = a.needles;
         told = told_none _ _ (search rules);
         brought = a.brought;
