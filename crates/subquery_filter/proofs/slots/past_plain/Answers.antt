@@ -1,4 +1,4 @@
-use Rattle.std.proofs.Common.{◌≡◌, ◌∙◌, ap, drop, false, sym, take, take-append-drop}
+use Rattle.std.proofs.Common.{◌∙◌, ap, drop, false, sym, take, take-append-drop}
 use Rattle.std.proofs.lemmas.List.{take_rest}
 use Rattle.subquery_filter.specs.StepsLetters.{kinds_in}
 use Rattle.subquery_filter.proofs.TokenLemmas.{kinds_plain}

@@ -10,8 +10,7 @@ returns-clause-lacks c = λ yes.
     let moment : to_z w64 (of_z w64 c.args.row.moment) ≡ c.args.row.moment = search rules in
     let runs = c.args.self.now.runs.items in
     let same = c.as_slice-2.ensures.value in
-    let tells = rw moment at c.stamp_runs-bits.ensures in
-    (
+    let tells = rw moment at c.stamp_runs-bits.ensures in (
       c.stamp_runs-bits.result,
       λ stamps s stamped.
           subst (λ (l : List Run). RunMarks l s c.stamp_runs-bits.result) same
