@@ -1,4 +1,11 @@
 //! Lines on what the next call meets, and calls.
+//!
+//! - `log NAME TEXT N` puts a log on the shelf, whose read N fails.
+//! - `opening N`, `write N`, `say N`: in the next call opening N fails, or write N to its output,
+//!   or write N to its error output.
+//! - `room N` gives its output so much room, and `unsaid` its error output none. With `slow` both
+//!   take a byte of each write.
+//! - `words N WORD` puts a word so many times behind those of the next call.
 use crate::machine::{Machine, SOUND, untold};
 use crate::outside::{NEVER, answer, put_log, shelf, string_of};
 use crate::texts::at;

@@ -1,4 +1,14 @@
-//! Lines that want something of the last call or of the archive's disk.
+//! Lines that want something of the last call or of the archive's disk. Texts that are left out are
+//! empty.
+//!
+//! - `is STATUS OUT ERR`: the call ended with this status, and wrote these texts.
+//! - `front`, `begins`, `ends`: the same, but the call printed a front of `OUT`, or what begins or
+//!   ends with it.
+//! - `lines STATUS LINES LAST ERR`: the same, but it printed a front of the lines, and then `LAST`.
+//! - `status N`: it ended with this status.
+//! - `image TEXT`, `calls N`, `faults N`: the archive's disk has these bytes, has had so many calls
+//!   since it was made, has counted so many faults.
+//! - `least N M`: `N` is at most `M`.
 use crate::machine::Machine;
 use crate::texts::at;
 use log_seams::Disk;

@@ -1,4 +1,15 @@
 //! Lines that change a disk.
+//!
+//! - `row` begins anew with an empty disk for the archive, and none for a second one. Logs and
+//!   names stay.
+//! - `disk TEXT` makes the archive's disk one with these bytes, `wide ROOM CALLS` an empty one with
+//!   more room.
+//! - `fault N` makes it one with the same bytes, whose call N fails.
+//! - `change AT BYTE` changes a byte of it.
+//! - `swap` exchanges it with that of the second archive, `aside` with one that stands aside.
+//! - `crash N KIND` makes it what a crash after N calls leaves of the one that stands aside: with
+//!   all that was not synced (0), ones in its place (1), nothing of it (2), the first half of each
+//!   write (3).
 use crate::machine::{Machine, SOUND, no_disk};
 use crate::outside::{NEVER, disk, disk_within};
 use crate::texts::{at, first_of};

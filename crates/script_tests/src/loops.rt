@@ -1,4 +1,11 @@
 //! Lines on what is played next: loops and parts.
+//!
+//! - `each LETTER FIRST LAST` .. `end` plays the lines between for each of these numbers, of which
+//!   there is one at least.
+//! - `leave STATUS OUT ERR` goes behind the end of the loop, and `next ..` to it, if the last call
+//!   answered this.
+//! - `part NAME` .. `back` is a part, which stands behind all other lines. `play NAME TEXT..` plays
+//!   it, with the names `1` to `9` for the texts.
 use crate::checks::wanted;
 use crate::machine::Machine;
 use crate::rounds::{begin, end_behind, line_behind, next_round};

@@ -1,4 +1,9 @@
-//! Lines that name something.
+//! Lines that name something. `names` has the texts that all scripts name.
+//!
+//! - `text NAME TEXT..` names texts, one behind the other.
+//! - `repeat NAME N TEXT` names a text so many times, `head NAME N TEXT` so many bytes of one.
+//! - `keep NAME` names the archive's bytes.
+//! - `count LETTER` gives a letter to the number of calls of the archive's disk.
 use crate::machine::Machine;
 use crate::texts::{at, first_of, joined, number_at, put_text, repeated};
 use std::alloc::AllocError;

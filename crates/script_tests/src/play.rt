@@ -1,4 +1,16 @@
 //! Scripts: a line is a verb and its values, and each is carried out in turn.
+//!
+//! A value is a word; a text in quotes, with the escapes `\n`, `\r`, `\t`, `\0`, `\\` and `\xHH`;
+//! or `$NAME` for the text that has the name. A number is written in digits, or as a letter that
+//! names one, also with `+` and `-` between several. `#` begins a comment.
+//!
+//! - `call WORD..` calls `run` with these words, over the logs and the two disks.
+//! - `or ..` notes whether what the rest of the line wants is so. `one` wants that one of those
+//!   held.
+//! - `test NAME` begins the lines of a test, which ends before the next one or the first part. What
+//!   stands before all tests is played before each. A script without such lines is one test.
+//!
+//! The other verbs are told in `checks`, `calls`, `disks`, `naming` and `loops`.
 use crate::calls::{call, over_next};
 use crate::checks::wanted;
 use crate::disks::over_disks;
