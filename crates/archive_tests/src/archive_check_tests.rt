@@ -1,10 +1,10 @@
 //! The check of a small archive, whole, cut and changed.
-use crate::worked::{WORKED, changed};
 use archive_check::{CheckRefusal, Summary, check};
 use log_seams::MemDisk;
 use plain_list::Text;
 use std::alloc::{AllocError, Global};
 use std::test::Fail;
+use test_archives::{WORKED, changed};
 
 // A byte that is changed, and the place of the damage.
 const CHANGED: &[(usize, u8, u64)] = &[

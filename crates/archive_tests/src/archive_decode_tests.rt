@@ -1,11 +1,11 @@
 //! The files of small archives.
-use crate::worked::{WORKED, changed};
 use archive_decode::{DecodeRefusal, decode};
 use archive_open::{PlainBooks, open_archive};
 use log_seams::{MemDisk, MemSink};
 use plain_list::Text;
 use std::alloc::{AllocError, Global};
 use std::test::Fail;
+use test_archives::{WORKED, changed};
 
 /// Whether the decoding of file 0 ends so, and a sink with so much room then has these bytes.
 fn decoded(

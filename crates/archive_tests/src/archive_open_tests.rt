@@ -1,6 +1,5 @@
 //! The worked archive, cut and changed, and over a disk that fails.
 
-use crate::worked::{WORKED, changed};
 use archive_core::Books;
 use archive_open::{Archive, ArchiveRefusal, PlainBooks, open_archive};
 use log_seams::MemDisk;
@@ -8,6 +7,7 @@ use plain_list::Text;
 use row_codec::Names;
 use std::alloc::{AllocError, Global};
 use std::test::Fail;
+use test_archives::{WORKED, changed};
 
 // Its gates.
 const GATES: &[usize] = &[32, 55, 78, 154];

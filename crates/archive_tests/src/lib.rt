@@ -22,6 +22,4 @@ mod search_engine_tests;
 #[cfg(test)]
 mod segment_pages_tests;
 #[cfg(test)]
-mod worked;
-#[cfg(test)]
 mod worn;

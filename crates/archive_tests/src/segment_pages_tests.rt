@@ -1,7 +1,6 @@
 //! A segment behind ten bytes of a disk, whole, changed and over a disk that fails.
 ghost use Rattle.step_count.specs.Opens.{OpensFor};
 
-use crate::worked::changed;
 use column_store::Columns;
 use log_seams::MemDisk;
 use plain_list::Text;
@@ -12,6 +11,7 @@ use std::marker::Brand;
 use std::sync::ledger::{Blank, Ledger};
 use std::test::Fail;
 use step_count::Steps;
+use test_archives::changed;
 
 /// Where the payload begins on the disk, and how many bytes its head and all of it have.
 const AT: usize = 10;

@@ -2,13 +2,13 @@
 ghost use Rattle.std.specs.Prelude.{◌≡◌, None, Some, false, is_ok};
 ghost use Rattle.log_seams.specs.Outside.{Counts};
 
-use crate::disk_journal_tests::WORKED;
 use crate::holds;
 use disk_journal::{Journal, LoadRefusal, RecordPlace};
 use log_seams::{Disk, Failed};
 use plain_list::Text;
 use std::alloc::{AllocError, Global};
 use std::test::Fail;
+use test_archives::WORKED;
 
 /// Bytes that are not told, and that cannot be written. A read gives at most `most` of them.
 #[derive(Drop)]
