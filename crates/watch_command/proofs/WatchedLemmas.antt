@@ -63,7 +63,26 @@ pub record OpenedTwice (old mid late end : DiskState) : Type 0 where
   pub begun_counts : mid.faults ≤ late.faults
   pub counts : late.faults ≤ end.faults
 
-module _ (old mid late end : DiskState) (twice : OpenedTwice old mid late end) where
+-- by what the calls say, over the disk that the journal is begun over
+pub opened_twice : {D : Type 0} (state : D → DiskState) (law : (d : D) → IsLawful (state d)) (old mid started begun end : D)
+    → begun ≡ started → KeepsBytes (state old) (state mid) → (state old).faults ≤ (state mid).faults
+    → KeepsBytes (state mid) (state started) → (state mid).faults ≤ (state started).faults
+    → Rests (state begun) (state end) → (state begun).faults ≤ (state end).faults
+    → OpenedTwice (state old) (state mid) (state begun) (state end)
+opened_twice state law old mid started begun end same first first_counts keeps risen rests counts = record {
+  law_old = law old;
+  law_mid = law mid;
+  law_late = law begun;
+  law_end = law end;
+  first = first;
+  begun = subst (λ d. KeepsBytes (state mid) (state d)) (sym same) keeps;
+  rests = rests;
+  first_counts = first_counts;
+  begun_counts = subst (λ d. (state mid).faults ≤ (state d).faults) (sym same) risen;
+  counts = counts;
+}
+
+module _ {old mid late end : DiskState} (twice : OpenedTwice old mid late end) where
   -- up to the second opening, and behind it
   pub looked_late : Looked old mid late
   looked_late = record { law_old = twice.law_old; law_mid = twice.law_mid; law_new = twice.law_late; first = twice.first; second = twice.begun; counts = omega (arith, twice.first_counts, twice.begun_counts) }

@@ -1,16 +1,16 @@
 //! Logs that are added to an archive while a reader prints the messages of each sealed segment that a
 //! pattern matches.
-ghost use Rattle.std.specs.Prelude.{◌≡◌, ◌≤◌, ℕ, map, IfErr, IfOk, IfSome, IsTrue, OnErr, OnOk, is_some};
+ghost use Rattle.std.specs.Prelude.{◌≡◌, ◌≤◌, ℕ, map, IfErr, IfOk, IfSome, IsTrue, OnErr, is_some};
 ghost use Rattle.disk_journal.specs.Journal.{state_of};
 ghost use Rattle.live_search.specs.Reader.{live_follower};
 ghost use Rattle.command_answers.specs.Ingested.{TellsDamage};
 ghost use Rattle.command_answers.specs.Known.{told_if};
 ghost use Rattle.command_refusals.specs.GoesOn.{DiskGoesOn};
 ghost use Rattle.command_refusals.specs.Reading.{IsArchive};
-ghost use Rattle.write_commands.specs.Followed.{Follows, MayBeginAt};
+ghost use Rattle.write_commands.specs.Followed.{FollowsBy, MayBeginAt};
 ghost use Rattle.write_commands.specs.IngestPrints.{came_of};
 ghost use Rattle.write_commands.specs.Naming.{IsHeldBy};
-ghost use Rattle.write_commands.specs.StepsAdding.{AddsNewLogs, HasRoomFor, MayAdd, RefusesNewLogs, ShelfGoesOn, names_asked};
+ghost use Rattle.write_commands.specs.StepsAdding.{AddsOrRefuses, HasRoomFor, MayAdd, RefusesNewLogs, ShelfGoesOn, names_asked};
 ghost use Rattle.write_commands.specs.StepsCauses.{logs_around};
 ghost use Rattle.write_commands.specs.StepsKnown.{IsNoDamage, lent_state};
 ghost use Rattle.watch_command.specs.StepsWatched.{AddsWatched};
@@ -23,11 +23,14 @@ use disk_journal::{Journal, start};
 use live_search::LiveReader;
 use log_seams::{Disk, Shelf, Sink};
 use std::alloc::Global;
-use std::marker::{Brand, PhantomData};
+use std::marker::Brand;
 use std::sync::Wait;
 use std::thread::Threads;
 use wild_match::Pattern;
-use write_commands::{FileReport, Founded, Holding, JournalEnd, Lent, NewLogs, add_over, hold};
+use write_commands::{
+    FileReport, Founded, Holding, Lent, NewLogs, OpenedArchive, PartedJournal, add_over, hold,
+    part_journal,
+};
 
 /// What came of logs that were added while a reader printed.
 #[derive(Clone, Copy, Debug)]
@@ -72,55 +75,26 @@ where
         (lent_state L.tells name (state_of journal)) }
 
     // by the answer
-    ensures added { IfOk result.0 (λ first. AddsNewLogs (H.content shelf.old)
+    ensures came { AddsOrRefuses (H.content shelf.old)
         (logs_around H.unread H.open_faults H.read_faults shelf.old shelf.new)
-        asked.entry first taken.new.items
+        asked.entry taken.new.items
         (told_if L.tells (D.state journal.entry.disk.now))
-        (told_if L.tells (D.state result.1.now))) }
-    ensures followed { OnOk result.0 (Follows (live_follower K.written reader.old)
-        (live_follower K.written reader.new) asked.entry.segment (names_asked asked.entry)
+        (told_if L.tells (D.state result.1.now)) result.0 }
+    ensures followed { FollowsBy (live_follower K.written)
+        asked.entry.segment (names_asked asked.entry)
         (map (came_of (H.content shelf.old)) taken.new.items)
         (told_if L.tells (D.state journal.entry.disk.now))
-        (told_if L.tells (D.state result.1.now))) }
-    ensures refused { IfErr result.0 (RefusesNewLogs asked.entry
-        (told_if L.tells (D.state journal.entry.disk.now))
-        (told_if L.tells (D.state result.1.now))) }
+        (told_if L.tells (D.state result.1.now)) reader.old reader.new result.0 }
     ensures undamaged { IfErr result.0 IsNoDamage }
-    ensures rests { OnErr result.0 (reader.new ≡ reader.old) }
 
     // what stays
     ensures back { result.1.ghost_name ≡ journal.entry.disk.ghost_name }
     ensures goes_on { DiskGoesOn (D.state journal.entry.disk.now) (D.state result.1.now) }
     ensures logs { ShelfGoesOn H.content H.open_faults H.read_faults shelf.old shelf.new }
 {
-    let Journal {
-        disk,
-        header,
-        place,
-        count,
-        closed,
-    } = journal;
-    let end = JournalEnd {
-        header,
-        place,
-        count,
-        closed,
-    };
-    let mut founded = Founded::<'d, D, L> {
-        disk,
-        lent: PhantomData,
-    };
-    let answer = add_over(
-        rt,
-        alloc,
-        asked,
-        end,
-        holding,
-        shelf,
-        &mut founded,
-        taken,
-        reader,
-    );
+    let PartedJournal { mut founded, end } = part_journal::<D, L>(journal);
+    let opened = OpenedArchive { end, holding };
+    let answer = add_over(rt, alloc, asked, opened, shelf, &mut founded, taken, reader);
     let Founded { disk, .. } = founded;
     (answer, disk)
 }

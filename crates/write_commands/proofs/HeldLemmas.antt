@@ -1,6 +1,7 @@
 -- The adding of logs to an archive that was opened, from the start of the call on.
-use Rattle.std.proofs.Common.{◌≡◌, ◌≤◌, subst, ℕ, List, length, map, Option, Some, None}
-use Rattle.log_seams.specs.Disk.{DiskState, IsSynced, KeepsBytes, Only, Rests}
+use Rattle.std.proofs.Common.{◌≡◌, ◌≤◌, arith, subst, sym, ℕ, List, length, map, Option, Some, None}
+use Rattle.log_seams.specs.Disk.{DiskState, IsLawful, IsSynced, KeepsBytes, Only, Rests}
+use Rattle.log_seams.proofs.MomentLemmas.{keeps_on}
 use Rattle.record_format.specs.Header.{header_bytes}
 use Rattle.disk_journal.specs.Place.{AtEnd}
 use Rattle.disk_journal.specs.State.{JournalState}
@@ -8,7 +9,7 @@ use Rattle.disk_seal.specs.Opening.{MayOpen}
 use Rattle.command_refusals.specs.GoesOn.{DiskGoesOn}
 use Rattle.command_refusals.specs.Reading.{OverJournal}
 use Rattle.command_refusals.specs.declared.outcome.AddRefusal.{AddRefusal}
-use Rattle.command_answers.specs.Ingested.{Logs, TakesIn}
+use Rattle.command_answers.specs.Ingested.{FromArchive, Logs, TakesIn, TakesNothing}
 use Rattle.write_commands.specs.declared.file_report.FileReport.{FileReport}
 use Rattle.write_commands.specs.declared.ingest.NewLogs.{NewLogs}
 use Rattle.write_commands.specs.IngestPrints.{came_of}
@@ -16,7 +17,7 @@ use Rattle.write_commands.specs.StepsAdding.{AddsNewLogs, RefusesNewLogs, names_
 use Rattle.command_refusals.proofs.GoingLemmas.{DiskGoesOn-joined, DiskGoesOn-seen, KeepsBytes-same}
 use Rattle.write_commands.proofs.CauseLemmas.{cause_sooner}
 use Rattle.write_commands.proofs.LeavesLemmas.{from_archive}
-use Rattle.write_commands.proofs.StepsLemmas.{Looked, no_more, nothing_sooner, same_bytes, takes_looked}
+use Rattle.write_commands.proofs.StepsLemmas.{Looked, looked_nothing, no_more, nothing_sooner, same_bytes, takes_looked}
 use Rattle.write_commands.proofs.WholeLemmas.{causes_looked}
 
 -- a journal at its end was synced
@@ -39,6 +40,47 @@ looked_goes old mid late looked risen later =
 
 pub looked_first : (old mid late : DiskState) → Looked old mid late → old.faults ≤ mid.faults → Looked old old mid
 looked_first old mid late looked risen = record { law_old = looked.law_old; law_mid = looked.law_old; law_new = looked.law_mid; first = KeepsBytes-same old; second = looked.first; counts = risen }
+
+-- The header was read, and the archive was opened by a journal behind it.
+pub record OpenedOnce (old mid late : DiskState) : Type 0 where
+  pub looked : Looked old mid late
+  pub risen : old.faults ≤ mid.faults
+  pub rests : Rests mid late
+  pub later : mid.faults ≤ late.faults
+
+-- by what the calls say, over the disk that the journal is begun over
+pub opened_once : {D : Type 0} (state : D → DiskState) (law : (d : D) → IsLawful (state d)) (old started begun late : D)
+    → begun ≡ started → KeepsBytes (state old) (state started) → (state old).faults ≤ (state started).faults
+    → Rests (state begun) (state late) → (state begun).faults ≤ (state late).faults
+    → OpenedOnce (state old) (state begun) (state late)
+opened_once state law old started begun late same keeps risen rests later =
+    let risen_begun = subst (λ d. (state old).faults ≤ (state d).faults) (sym same) risen in
+    record {
+      looked = record {
+        law_old = law old;
+        law_mid = law begun;
+        law_new = law late;
+        first = subst (λ d. KeepsBytes (state old) (state d)) (sym same) keeps;
+        second = rests_keep (state begun) (state late) rests;
+        counts = omega (arith, risen_begun, later);
+      };
+      risen = risen_begun;
+      rests = rests;
+      later = later;
+    }
+
+module _ {old mid late : DiskState} (once : OpenedOnce old mid late) where
+  pub once_goes : DiskGoesOn old late
+  once_goes = looked_goes old mid late once.looked once.risen once.later
+
+  pub once_first : Looked old old mid
+  once_first = looked_first old mid late once.looked once.risen
+
+  pub once_keeps : KeepsBytes old late
+  once_keeps = keeps_on old mid late once.looked.first once.rests
+
+  pub once_nothing : FromArchive old (λ h before bytes stood. TakesNothing h before old late)
+  once_nothing = looked_nothing old mid late once.looked
 
 module _ (old mid late : DiskState) (looked : Looked old mid late) (new : DiskState) (goes : DiskGoesOn late new) (asked : NewLogs) where
   -- the logs were added

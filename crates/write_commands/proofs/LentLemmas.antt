@@ -1,11 +1,14 @@
 -- A journal that was opened over a disk, over the same disk which tells its bytes only where it is to.
-use Rattle.std.proofs.Common.{◌≡◌, ◌≤◌, ◌⊎◌, ◌∙◌, inl, inr, refl, sym, ap, subst, ℕ, Bool, true, false, List, drop, take, Option, None, Some, arith}
+use Rattle.std.proofs.Common.{◌≡◌, ◌≤◌, ◌⊎◌, ◌∙◌, inl, inr, refl, sym, ap, subst, ℕ, Bool, true, false, List, drop, take, Option, Some, arith}
 use Rattle.std.specs.Prelude.{IfErr, IfSome, IsErrOf, IsTrue, is_some, Result, Ok, Err}
+use Rattle.log_seams.specs.declared.disk.Disk.{Ghosts as DiskGhosts}
 use Rattle.log_seams.specs.Disk.{DiskState, IsLawful, KeepsBytes, Rests}
 use Rattle.record_format.specs.declared.header.Header.{Header}
 use Rattle.disk_journal.specs.Calls.{HasNoHeader}
 use Rattle.disk_journal.specs.Place.{AtEnd}
 use Rattle.disk_journal.specs.State.{BeginsWith, IsAtEnd, JournalState}
+use Rattle.disk_journal.specs.Journal.{state_of}
+use Rattle.disk_journal.specs.declared.journal.Journal.{Journal}
 use Rattle.disk_journal.specs.declared.refusals.StartRefusal.{StartRefusal}
 use Rattle.archive_meaning.specs.declared.entry.JournalEntry.{JournalEntry}
 use Rattle.archive_open.specs.Shown.{Looks, Opens, RefusedAt, Shown}
@@ -22,9 +25,11 @@ use Rattle.command_answers.specs.Ingested.{FromArchive, HasCallCause, TakesNothi
 use Rattle.command_answers.specs.Known.{seen_if, told_if}
 use Rattle.command_answers.specs.Names.{RefusesNames}
 use Rattle.write_commands.specs.Followed.{MayBeginAt}
+use Rattle.write_commands.specs.JournalAt.{AreParts, state_at}
 use Rattle.write_commands.specs.StepsAdding.{RefusesNewLogs}
 use Rattle.write_commands.specs.StepsKnown.{IsNoDamage, lent_state, told_lawful}
 use Rattle.write_commands.specs.declared.ingest.NewLogs.{NewLogs}
+use Rattle.write_commands.specs.declared.journal_end.JournalEnd.{JournalEnd}
 use Rattle.write_commands.proofs.AppendLemmas.{OpensFrom}
 use Rattle.write_commands.proofs.KnownLemmas.{tells_alike, told_archive}
 use Rattle.write_commands.proofs.StepsLemmas.{Looked}
@@ -83,6 +88,24 @@ keeps_twice old mid new law first second = record {
     of_mid t c past (inl since) = of_old t c past (first.time.nothing_else t c past since)
     of_mid t c past (inr image) = inr image
 
+-- ---- the journal
+
+-- what holds of a journal over the disk that is lent holds of its parts
+pub of_parts : {D : Type 0} {d : DiskGhosts D} (P : JournalState → Type 0) (tells : Bool) (name : ℕ) (j : Journal D d) (disk : D) (end : JournalEnd)
+    → AreParts j disk end → P (lent_state tells name (state_of j)) → P (state_at name (told_if tells (d.state disk)) end)
+of_parts {D} {d} P tells name j disk end parts holds =
+    subst (λ x. P (over (told_if tells (d.state x)) end.header end.place end.count end.closed)) (sym parts.same)
+    (subst (λ x. P (over lent x end.place end.count end.closed)) (sym parts.header)
+    (subst (λ x. P (over lent j.header x end.count end.closed)) (sym parts.place)
+    (subst (λ x. P (over lent j.header j.place x end.closed)) (sym parts.count)
+    (subst (λ x. P (over lent j.header j.place j.count x)) (sym parts.closed) holds))))
+  where
+    lent : DiskState
+    lent = told_if tells (d.state j.disk.now)
+
+    over : DiskState → Header → ℕ → ℕ → Bool → JournalState
+    over state header place count closed = record { name = name; disk = state; header = header; place = place; count = count; closed = closed }
+
 -- ---- the opening
 
 begins_told : (tells : Bool) (h : Header) (d : DiskState) → BeginsWith h d → BeginsWith h (told_if tells d)
@@ -98,14 +121,14 @@ ends_told true head place count told images ends = ends
 ends_told false head place count told images ends = tt
 
 -- The archive was opened from the first record on, whatever its bytes are.
-pub record OpensAny (old now : JournalState) (a : Shown) : Type 0 where
+record OpensAny (old now : JournalState) (a : Shown) : Type 0 where
   pub begins : BeginsWith old.header old.disk
   pub looks : Looks old now
   pub opened : Opens old.disk.seen a
   pub header : a.header ≡ old.header
   pub ends : IsAtEnd now
 
-pub from_any : (tells : Bool) (name : ℕ) (old now : JournalState) (a : Shown) → OpensAny old now a → (IsTrue tells → IfSome old.disk.seen IsArchive) → OpensFrom (lent_state tells name old) (lent_state tells name now) a
+from_any : (tells : Bool) (name : ℕ) (old now : JournalState) (a : Shown) → OpensAny old now a → (IsTrue tells → IfSome old.disk.seen IsArchive) → OpensFrom (lent_state tells name old) (lent_state tells name now) a
 from_any tells name old now a any archive = record {
   begins = begins_told tells old.header old.disk any.begins;
   archive = told_archive tells old.disk archive;
@@ -114,6 +137,22 @@ from_any tells name old now a any archive = record {
   header = any.header;
   ends = record { closed = any.ends.closed; ends = ends_told tells _ now.place now.count now.disk.seen now.disk.images any.ends.ends };
 }
+
+-- by what the calls say, over the disk whose header was read
+pub opens_from : {D : Type 0} {d : DiskGhosts D} (tells : Bool) (name : ℕ) (journal now : Journal D d) (started : D) (h : Header) (a : Shown)
+    → journal.header ≡ h → journal.disk.now ≡ started → BeginsWith h (d.state started)
+    → Looks (state_of journal) (state_of now) → Opens (d.state journal.disk.now).seen a → a.header ≡ journal.header → IsAtEnd (state_of now)
+    → (IsTrue tells → IfSome (d.state journal.disk.now).seen IsArchive)
+    → OpensFrom (lent_state tells name (state_of journal)) (lent_state tells name (state_of now)) a
+opens_from {D} {d} tells name journal now started h a header disk begins looks opened same ends archive =
+    from_any tells name (state_of journal) (state_of now) a
+    (record {
+      begins = subst (λ k. BeginsWith k (d.state journal.disk.now)) (sym header) (subst (λ x. BeginsWith h (d.state x)) (sym disk) begins);
+      looks = looks;
+      opened = opened;
+      header = same;
+      ends = ends;
+    }) archive
 
 -- one that stands for everything, and neither began with an entry nor handled one
 pub begins_at : {F : Type 0} (f : Follower F) (j : JournalState) → f.first ≡ 0 → f.handled ≡ 0 → f.halted ≡ false → ((h : Header) (es hs : List JournalEntry) → f.stands h es hs) → MayBeginAt f j

@@ -30,7 +30,7 @@ use Rattle.ingest_workers.specs.Ingested.{AreRefused, HasIngested, IsAsItWas, pl
 use Rattle.ingest_workers.specs.JobDone.{in_source}
 use Rattle.write_commands.specs.IngestPrints.{came_of, names_of}
 use Rattle.command_answers.specs.Ingested.{FileOutcome, IsOfNew}
-use Rattle.write_commands.specs.Jobs.{DidJobs, IsNotBegun, IsToldBy, of_cause, opens_of, refusal_by, sources_of}
+use Rattle.write_commands.specs.Jobs.{DidJobs, IsNotBegun, IsToldBy, opens_of, refusal_by, sources_of}
 use Rattle.write_commands.specs.JournalLeft.{HasNames, IsLogOf, TakesInto}
 use Rattle.write_commands.specs.Naming.{AreNumbered}
 use Rattle.command_refusals.specs.declared.outcome.PartCause.{PartCause}

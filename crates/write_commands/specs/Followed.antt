@@ -1,5 +1,5 @@
 -- What became of a follower of the journal beside an ingest.
-use Rattle.std.specs.Prelude.{◌≡◌, ◌⊎◌, ◌+◌, ◌≤◌, ℕ, true, false, List, [], ◌∷◌, ◌++◌, length, is_some}
+use Rattle.std.specs.Prelude.{◌≡◌, ◌⊎◌, ◌+◌, ◌≤◌, ℕ, true, false, List, [], ◌∷◌, ◌++◌, length, is_some, OnErr, OnOk, Result}
 use Rattle.log_seams.specs.declared.disk.Disk.{Ghosts as DiskGhosts}
 use Rattle.log_seams.specs.Disk.{DiskState}
 use Rattle.log_seams.specs.Outside.{Rose}
@@ -13,6 +13,7 @@ use Rattle.disk_seal.specs.Beside.{Follower, StandsOn}
 use Rattle.disk_seal.specs.Told.{IfTold}
 use Rattle.ingest_workers.specs.Beside.{MayBeginWith, WentBeside}
 use Rattle.ingest_workers.specs.Ingested.{IsAsItWas, told_entries}
+use Rattle.command_refusals.specs.declared.outcome.AddRefusal.{AddRefusal}
 use Rattle.command_answers.specs.Ingested.{FileOutcome, FromArchive, TakesIn}
 
 module _ {F D : Type 0} {d : DiskGhosts D} where
@@ -50,3 +51,11 @@ module _ {F : Type 0} where
     pub fixed : g.fixed ≡ f.fixed
     pub halted : g.halted ≡ true → Rose old.faults new.faults
     pub led : FromArchive old (λ h before bytes stood. IsLed g rows h before stood names came old new)
+
+-- So it is where the logs were added, by the answer; where they were not, the holder of the follower is as it was.
+pub record FollowsBy {F B : Type 0} (known : B → Follower F) (rows : ℕ) (names : List (List ℕ)) (came : List FileOutcome)
+    (old new : DiskState) (beside beside_after : B) (answer : Result ℕ AddRefusal) : Type 0 where
+  -- they were added
+  pub followed : OnOk answer (Follows (known beside) (known beside_after) rows names came old new)
+  -- or not
+  pub rests : OnErr answer (beside_after ≡ beside)

@@ -1,5 +1,5 @@
 -- What the adding of logs to an archive asks, and what it answers.
-use Rattle.std.specs.Prelude.{◌≡◌, ◌≤◌, ℕ, List, [], length, map, Option, None, Vec, vec_capacity}
+use Rattle.std.specs.Prelude.{◌≡◌, ◌≤◌, ℕ, List, [], length, map, IfErr, IfOk, Option, None, Result, Vec, vec_capacity}
 use Rattle.log_seams.specs.Disk.{DiskState}
 use Rattle.log_sources.specs.Sources.{str_bytes}
 use Rattle.ingest_fork.specs.declared.works.TheConstants.{MAX_WORKERS}
@@ -78,3 +78,11 @@ pub record RefusesNewLogs (asked : NewLogs) (old new : DiskState) (refusal : Add
   pub cause : HasCallCause (names_asked asked) old new refusal
   -- the journal is as it was
   pub nothing : FromArchive old (λ h before bytes stood. TakesNothing h before old new)
+
+-- The logs were added, numbered on from the answer, or the adding was refused.
+pub record AddsOrRefuses (content : List ℕ → Option (List ℕ)) (logs : Logs) (asked : NewLogs) (reports : List FileReport)
+    (old new : DiskState) (answer : Result ℕ AddRefusal) : Type 0 where
+  -- they were added
+  pub added : IfOk answer (λ first. AddsNewLogs content logs asked first reports old new)
+  -- or nothing was
+  pub refused : IfErr answer (RefusesNewLogs asked old new)

@@ -5,8 +5,11 @@
 //! are made over this disk, which tells its bytes only where the premise holds.
 ghost use Rattle.std.specs.Prelude.{◌≡◌, ℕ, Bool, false, is_some, Option, None};
 ghost use Rattle.command_answers.specs.Known.{KnownArchive, told_if};
+ghost use Rattle.write_commands.specs.JournalAt.{AreParts};
 ghost use Rattle.write_commands.specs.StepsKnown.{told_lawful};
 
+use crate::journal_end::JournalEnd;
+use disk_journal::Journal;
 use log_seams::{Disk, Failed};
 use std::marker::{Brand, PhantomData};
 
@@ -76,4 +79,40 @@ impl<'d, D: Disk, L: Lent> Disk for Founded<'d, D, L> {
     }
 
     ghost lawful = { λ f. told_lawful L.tells (D.state f.disk.now) (D.lawful f.disk.now) };
+}
+
+/// A journal in its parts.
+#[derive(Drop)]
+pub struct PartedJournal<'d, D: Disk, L: Lent> {
+    /// Its disk, which tells its bytes only where it is to.
+    pub founded: Founded<'d, D, L>,
+    /// Where it has come to.
+    pub end: JournalEnd,
+}
+
+/// Parts a journal, so that it can be gone on with over the disk that tells its bytes only where it is
+/// to.
+pub fn part_journal<'d, D: Disk, L: Lent>(journal: Journal<'d, D>) -> PartedJournal<'d, D, L>
+    requires lent { journal.disk.ghost_name ≡ L.name }
+    requires told { is_some (D.state journal.disk.now).seen ≡ L.told }
+    ensures parts { AreParts journal.entry result.founded.disk.now result.end }
+{
+    let Journal {
+        disk,
+        header,
+        place,
+        count,
+        closed,
+    } = journal;
+    let founded = Founded::<'d, D, L> {
+        disk,
+        lent: PhantomData,
+    };
+    let end = JournalEnd {
+        header,
+        place,
+        count,
+        closed,
+    };
+    PartedJournal { founded, end }
 }

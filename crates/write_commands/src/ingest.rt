@@ -1,5 +1,5 @@
 //! The command `ingest`: logs become the files of an archive.
-ghost use Rattle.std.specs.Prelude.{◌≡◌, ◌+◌, ◌≤◌, ℕ, List, [], length, map, slice_get, vec_len, vec_capacity, false, All, IfErr, IfOk, IfSome, IsTrue, OnErr, OnOk, is_some, Some};
+ghost use Rattle.std.specs.Prelude.{◌≡◌, ◌+◌, ◌≤◌, ℕ, List, [], length, map, slice_get, vec_len, vec_capacity, false, All, IfErr, IfOk, IfSome, IsTrue, is_some, Some};
 ghost use Rattle.std.specs.List.{AllZip};
 ghost use Rattle.disk_journal.specs.Journal.{state_of};
 ghost use Rattle.disk_seal.specs.Opening.{MayOpen};
@@ -12,10 +12,10 @@ ghost use Rattle.command_refusals.specs.GoesOn.{DiskGoesOn, OutsideGoesOn};
 ghost use Rattle.ingest_fork.specs.declared.works.TheConstants.{MAX_WORKERS};
 ghost use Rattle.command_answers.specs.Ingested.{TellsDamage};
 ghost use Rattle.command_answers.specs.Known.{over, told_if};
-ghost use Rattle.write_commands.specs.Followed.{Follows, MayBeginAt, WentAlong};
+ghost use Rattle.write_commands.specs.Followed.{FollowsBy, MayBeginAt, WentAlong};
 ghost use Rattle.write_commands.specs.IngestPrints.{came_of, names_of};
 ghost use Rattle.write_commands.specs.Jobs.{DidJobs, IsNotBegun, IsToldBy, opens_of, refusal_by, sources_of};
-ghost use Rattle.write_commands.specs.StepsAdding.{AddsNewLogs, HasRoomFor, IsInLimits, MayAdd, RefusesNewLogs, ShelfGoesOn, names_asked};
+ghost use Rattle.write_commands.specs.StepsAdding.{AddsNewLogs, AddsOrRefuses, HasRoomFor, IsInLimits, MayAdd, RefusesNewLogs, ShelfGoesOn, names_asked};
 ghost use Rattle.write_commands.specs.StepsCauses.{HaveCausesIn, into_journal, logs_around};
 ghost use Rattle.write_commands.specs.StepsKnown.{EndsIngestAt, IsNoDamage, lent_state};
 ghost use Rattle.write_commands.specs.JournalAt.{state_at};
@@ -28,8 +28,8 @@ ghost use Rattle.command_refusals.specs.declared.outcome.AddRefusal.{AddRefusal}
 ghost use Rattle.command_refusals.specs.Outcome.{of_add};
 
 use crate::file_report::{FileReport, part_cause, report_taken};
-use crate::founded::{Base, Founded, Lent};
-use crate::journal_end::JournalEnd;
+use crate::founded::{Base, Founded, Lent, PartedJournal, part_journal};
+use crate::journal_end::{JournalEnd, OpenedArchive};
 use crate::names::refuse_names;
 use crate::register::{Holding, Named, hold, name_files};
 use archive_core::Books;
@@ -45,7 +45,7 @@ use log_sources::{LogSource, close_logs, open_logs};
 use logtype_text::one_list_of_parts;
 use sink_pieces::PrintRefusal;
 use std::alloc::{AllocError, Global};
-use std::marker::{Brand, PhantomData};
+use std::marker::Brand;
 use std::sync::Wait;
 use std::thread::Threads;
 
@@ -368,17 +368,15 @@ where
     requires beside { MayBeginWith (B.known beside.old) journal }
 
     // by the answer
-    ensures added { IfOk result.answer (λ first. AddsNewLogs (H.content shelf.old)
-        (logs_around H.unread H.open_faults H.read_faults shelf.old shelf.new) asked.entry first
-        taken.new.items (D.state journal.entry.disk.now) (D.state result.journal.disk.now)) }
-    ensures followed { OnOk result.answer (Follows (B.known beside.old) (B.known beside.new)
-        asked.entry.segment (names_asked asked.entry)
+    ensures came { AddsOrRefuses (H.content shelf.old)
+        (logs_around H.unread H.open_faults H.read_faults shelf.old shelf.new)
+        asked.entry taken.new.items
+        (D.state journal.entry.disk.now) (D.state result.journal.disk.now) result.answer }
+    ensures followed { FollowsBy B.known asked.entry.segment (names_asked asked.entry)
         (map (came_of (H.content shelf.old)) taken.new.items)
-        (D.state journal.entry.disk.now) (D.state result.journal.disk.now)) }
-    ensures refused { IfErr result.answer (RefusesNewLogs asked.entry
-        (D.state journal.entry.disk.now) (D.state result.journal.disk.now)) }
+        (D.state journal.entry.disk.now) (D.state result.journal.disk.now)
+        beside.old beside.new result.answer }
     ensures undamaged { IfErr result.answer IsNoDamage }
-    ensures rests { OnErr result.answer (beside.new ≡ beside.old) }
 
     // what stays
     ensures goes_on { HasGoneOn journal.entry result.journal }
@@ -402,13 +400,12 @@ where
     }
 }
 
-/// The same over a disk, whose journal has come to this. Answers the number of the first new file.
+/// The same over the disk of the archive. Answers the number of the first new file.
 pub fn add_over<'a, R: Threads + Wait + Sync, H: Shelf, D: Disk + Send, B: Beside<D> + Send>(
     rt: &R,
     alloc: Global,
     asked: NewLogs<'a>,
-    end: JournalEnd,
-    holding: Holding,
+    opened: OpenedArchive,
     shelf: &mut H,
     disk: &mut D,
     taken: &mut Vec<FileReport<'a>>,
@@ -418,28 +415,25 @@ where
     H::Src: Send,
     requires asked { MayAdd asked }
     requires room { HasRoomFor asked taken.old }
-    requires held { (name : ℕ) → IsHeldBy (state_at name (D.state disk.old) end)
-        holding.types holding.words holding.files }
+    requires held { (name : ℕ) → IsHeldBy (state_at name (D.state disk.old) opened.end)
+        opened.holding.types opened.holding.words opened.holding.files }
     requires beside { (name : ℕ) → MayBeginAt (B.known beside.old)
-        (state_at name (D.state disk.old) end) }
+        (state_at name (D.state disk.old) opened.end) }
 
     // by the answer
-    ensures added { IfOk result (λ first. AddsNewLogs (H.content shelf.old)
+    ensures came { AddsOrRefuses (H.content shelf.old)
         (logs_around H.unread H.open_faults H.read_faults shelf.old shelf.new)
-        asked.entry first taken.new.items (D.state disk.old) (D.state disk.new)) }
-    ensures followed { OnOk result (Follows (B.known beside.old) (B.known beside.new)
-        asked.entry.segment (names_asked asked.entry)
+        asked.entry taken.new.items (D.state disk.old) (D.state disk.new) result }
+    ensures followed { FollowsBy B.known asked.entry.segment (names_asked asked.entry)
         (map (came_of (H.content shelf.old)) taken.new.items)
-        (D.state disk.old) (D.state disk.new)) }
-    ensures refused { IfErr result
-        (RefusesNewLogs asked.entry (D.state disk.old) (D.state disk.new)) }
+        (D.state disk.old) (D.state disk.new) beside.old beside.new result }
     ensures undamaged { IfErr result IsNoDamage }
-    ensures rests { OnErr result (beside.new ≡ beside.old) }
 
     // what stays
     ensures goes_on { DiskGoesOn (D.state disk.old) (D.state disk.new) }
     ensures logs { ShelfGoesOn H.content H.open_faults H.read_faults shelf.old shelf.new }
 {
+    let OpenedArchive { end, holding } = opened;
     let JournalEnd {
         header,
         place,
@@ -478,14 +472,11 @@ where
         holding.types holding.words holding.files }
 
     // by the answer
-    ensures added { IfOk result.0 (λ first. AddsNewLogs (H.content shelf.old)
+    ensures came { AddsOrRefuses (H.content shelf.old)
         (logs_around H.unread H.open_faults H.read_faults shelf.old shelf.new)
-        asked.entry first taken.new.items
+        asked.entry taken.new.items
         (told_if L.tells (D.state journal.entry.disk.now))
-        (told_if L.tells (D.state result.1.now))) }
-    ensures refused { IfErr result.0 (RefusesNewLogs asked.entry
-        (told_if L.tells (D.state journal.entry.disk.now))
-        (told_if L.tells (D.state result.1.now))) }
+        (told_if L.tells (D.state result.1.now)) result.0 }
     ensures undamaged { IfErr result.0 IsNoDamage }
 
     // what stays
@@ -493,30 +484,14 @@ where
     ensures goes_on { DiskGoesOn (D.state journal.entry.disk.now) (D.state result.1.now) }
     ensures logs { ShelfGoesOn H.content H.open_faults H.read_faults shelf.old shelf.new }
 {
-    let Journal {
-        disk,
-        header,
-        place,
-        count,
-        closed,
-    } = journal;
-    let end = JournalEnd {
-        header,
-        place,
-        count,
-        closed,
-    };
-    let mut founded = Founded::<'d, D, L> {
-        disk,
-        lent: PhantomData,
-    };
+    let PartedJournal { mut founded, end } = part_journal::<D, L>(journal);
+    let opened = OpenedArchive { end, holding };
     let mut alone = Alone {};
     let answer = add_over(
         rt,
         alloc,
         asked,
-        end,
-        holding,
+        opened,
         shelf,
         &mut founded,
         taken,

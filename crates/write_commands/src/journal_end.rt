@@ -1,6 +1,7 @@
 //! A journal that is to be gone on with, over a disk that is lent anew.
 ghost use Rattle.std.specs.Prelude.{◌-◌, ◌^◌, ◌<◌, ◌≤◌, IsTrue};
 
+use crate::register::Holding;
 use record_format::Header;
 
 /// Where a journal has come to, without its disk.
@@ -17,4 +18,13 @@ pub struct JournalEnd {
     ghost limit: { header.length_limit ≤ 2 ^ 40 },
     ghost below: { IsTrue closed → place < 2 ^ 64 - 1 },
     ghost counted: { count ≤ place },
+}
+
+/// An archive that was opened and may be appended to, without its disk.
+#[derive(Drop)]
+pub struct OpenedArchive {
+    /// Where its journal has come to.
+    pub end: JournalEnd,
+    /// What it has.
+    pub holding: Holding,
 }

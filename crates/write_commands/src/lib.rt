@@ -13,9 +13,9 @@ mod summary;
 
 pub use bench_archive::bench;
 pub use file_report::{FileReport, graver, part_cause, report_taken};
-pub use founded::{Base, Founded, Lent};
+pub use founded::{Base, Founded, Lent, PartedJournal, part_journal};
 pub use ingest::{NewLogs, add_over, ingest_files};
-pub use journal_end::JournalEnd;
+pub use journal_end::{JournalEnd, OpenedArchive};
 pub use laws::{rests_end_their_log, unopened_give_nothing};
 pub use names::refuse_names;
 pub use register::{Holding, hold};

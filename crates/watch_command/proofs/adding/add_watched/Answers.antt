@@ -4,7 +4,6 @@ use Rattle.std.proofs.lemmas.Result.{err_from_is_err_and}
 use Rattle.log_seams.specs.Disk.{KeepsBytes}
 use Rattle.log_sources.specs.Sources.{str_bytes}
 use Rattle.disk_journal.specs.Journal.{state_of}
-use Rattle.disk_journal.specs.State.{BeginsWith}
 use Rattle.archive_open.specs.Archive.{shown}
 use Rattle.archive_open.specs.Kept.{Kept}
 use Rattle.archive_open.specs.Shown.{Opens}
@@ -24,10 +23,10 @@ use Rattle.write_commands.specs.StepsKnown.{IsNoDamage, lent_state}
 use Rattle.write_commands.proofs.AppendLemmas.{is_held, may_append}
 use Rattle.write_commands.proofs.CauseLemmas.{archive_cause, cause_sooner, refused_with, refuses_with, start_cause}
 use Rattle.write_commands.proofs.HeldLemmas.{adds_looked, refuses_looked, rests_keep}
-use Rattle.write_commands.proofs.LentLemmas.{OpensAny, archive_damage, damage_sooner, damaged_with, from_any, goes_told, keeps_twice, looked_told, no_damage, opens_told, refuses_told, start_damage}
+use Rattle.write_commands.proofs.LentLemmas.{archive_damage, damage_sooner, damaged_with, goes_told, keeps_twice, looked_told, no_damage, opens_from, opens_told, refuses_told, start_damage}
 use Rattle.write_commands.proofs.StepsLemmas.{Looked, kept_nothing, looked_nothing}
 use Rattle.watch_command.specs.StepsWatched.{AddsWatched, from_live}
-use Rattle.watch_command.proofs.WatchedLemmas.{OpenedTwice, keeps_end, keeps_late, kept_by, looked_end, looked_late, may_begin, twice_goes, was_watched}
+use Rattle.watch_command.proofs.WatchedLemmas.{keeps_end, keeps_late, kept_by, looked_end, looked_late, may_begin, opened_twice, twice_goes, was_watched}
 use Rattle.watch_command.proofs.adding.add_watched.Goals as goal
 
 -- ---- refused before anything was written
@@ -95,80 +94,49 @@ returns-in_err-archive-clause-refused g c =
     let late = g.D.Disk.state c.begin-journal.result.disk.now in
     let end = g.D.Disk.state c.open_for_append.new.journal.disk.now in
     let opened = c.open_for_append.ensures in
-    let same = sym c.begin-journal.ensures.disk in
-    let twice : OpenedTwice old mid late end = record {
-      law_old = law _;
-      law_mid = law _;
-      law_late = law _;
-      law_end = law _;
-      first = c.open_archive.ensures.keeps;
-      begun = subst (λ d. KeepsBytes mid (g.D.Disk.state d)) same c.start.ensures.keeps;
-      rests = opened.looks.rests;
-      first_counts = c.open_archive.ensures.counts.later;
-      begun_counts = subst (λ d. mid.faults ≤ (g.D.Disk.state d).faults) same c.start.ensures.counts.later;
-      counts = opened.counts.later;
-    } in
+    let twice = opened_twice g.D.Disk.state law c.args.disk.now c.open_archive.new.disk c.start.new.disk
+    c.begin-journal.result.disk.now c.open_for_append.new.journal.disk.now c.begin-journal.ensures.disk
+    c.open_archive.ensures.keeps c.open_archive.ensures.counts.later c.start.ensures.keeps c.start.ensures.counts.later
+    opened.looks.rests opened.counts.later in
     let p = err_from_is_err_and c.from_residual-in_err-archive.result c.from_residual-in_err-archive.ensures.1 in
     let back = c.in_err-archive.disk-1-own.given.1 (sym (opened.looks.name ∙ c.begin-journal.ensures.name)) in
     subst (λ d. IfErr c.from_residual-in_err-archive.result (RefusesNewLogs c.args.asked (told_if g.L.Lent.tells old) (told_if g.L.Lent.tells (g.D.Disk.state d)))) (sym back)
     (refuses_told g.L.Lent.tells c.args.asked old end c.from_residual-in_err-archive.result
     (refuses_with c.args.asked old end c.from_residual-in_err-archive.result
     (refused_with (map str_bytes c.args.asked.files.now) old end c.from_residual-in_err-archive.result p.0 _ p.1 p.2
-    (cause_sooner (map str_bytes c.args.asked.files.now) old mid late end (looked_late old mid late end twice) (add_from_archive c.in_err-archive.field-0.0)
+    (cause_sooner (map str_bytes c.args.asked.files.now) old mid late end (looked_late twice) (add_from_archive c.in_err-archive.field-0.0)
     (archive_cause (map str_bytes c.args.asked.files.now) late end c.open_for_append.result c.in_err-archive.field-0.0 c.in_err-archive.was (rests_keep late end opened.looks.rests) opened.damaged opened.counts)))
-    (looked_nothing old mid end (looked_end old mid late end twice))))
+    (looked_nothing old mid end (looked_end twice))))
 
 pub returns-in_err-archive-clause-damaged : goal.returns-in_err-archive-clause-damaged
 returns-in_err-archive-clause-damaged g c =
     let law = (g.met.D.Disk g.world.𝓛 g.world.𝓜 g.world.𝓡 ((λ s x. x), (λ x. x), (λ x. x), λ x. x)).lawful in
     let old = g.D.Disk.state c.args.disk.now in
-    let mid = g.D.Disk.state c.open_archive.new.disk in
     let late = g.D.Disk.state c.begin-journal.result.disk.now in
     let end = g.D.Disk.state c.open_for_append.new.journal.disk.now in
     let opened = c.open_for_append.ensures in
-    let same = sym c.begin-journal.ensures.disk in
-    let twice : OpenedTwice old mid late end = record {
-      law_old = law _;
-      law_mid = law _;
-      law_late = law _;
-      law_end = law _;
-      first = c.open_archive.ensures.keeps;
-      begun = subst (λ d. KeepsBytes mid (g.D.Disk.state d)) same c.start.ensures.keeps;
-      rests = opened.looks.rests;
-      first_counts = c.open_archive.ensures.counts.later;
-      begun_counts = subst (λ d. mid.faults ≤ (g.D.Disk.state d).faults) same c.start.ensures.counts.later;
-      counts = opened.counts.later;
-    } in
+    let twice = opened_twice g.D.Disk.state law c.args.disk.now c.open_archive.new.disk c.start.new.disk
+    c.begin-journal.result.disk.now c.open_for_append.new.journal.disk.now c.begin-journal.ensures.disk
+    c.open_archive.ensures.keeps c.open_archive.ensures.counts.later c.start.ensures.keeps c.start.ensures.counts.later
+    opened.looks.rests opened.counts.later in
     let p = err_from_is_err_and c.from_residual-in_err-archive.result c.from_residual-in_err-archive.ensures.1 in
     let back = c.in_err-archive.disk-1-own.given.1 (sym (opened.looks.name ∙ c.begin-journal.ensures.name)) in
     subst (λ d. IfErr c.from_residual-in_err-archive.result (TellsDamage old (g.D.Disk.state d))) (sym back)
     (damaged_with old end c.from_residual-in_err-archive.result p.0 _ p.1 p.2
-    (damage_sooner old late end (keeps_late old mid late end twice).seen (keeps_end old mid late end twice) (add_from_archive c.in_err-archive.field-0.0)
+    (damage_sooner old late end (keeps_late twice).seen (keeps_end twice) (add_from_archive c.in_err-archive.field-0.0)
     (archive_damage late end c.open_for_append.result c.in_err-archive.field-0.0 c.in_err-archive.was (rests_keep late end opened.looks.rests) opened.damaged)))
 
 pub returns-in_err-archive-clause-goes_on : goal.returns-in_err-archive-clause-goes_on
 returns-in_err-archive-clause-goes_on g c =
     let law = (g.met.D.Disk g.world.𝓛 g.world.𝓜 g.world.𝓡 ((λ s x. x), (λ x. x), (λ x. x), λ x. x)).lawful in
     let old = g.D.Disk.state c.args.disk.now in
-    let mid = g.D.Disk.state c.open_archive.new.disk in
-    let late = g.D.Disk.state c.begin-journal.result.disk.now in
-    let end = g.D.Disk.state c.open_for_append.new.journal.disk.now in
     let opened = c.open_for_append.ensures in
-    let same = sym c.begin-journal.ensures.disk in
-    let twice : OpenedTwice old mid late end = record {
-      law_old = law _;
-      law_mid = law _;
-      law_late = law _;
-      law_end = law _;
-      first = c.open_archive.ensures.keeps;
-      begun = subst (λ d. KeepsBytes mid (g.D.Disk.state d)) same c.start.ensures.keeps;
-      rests = opened.looks.rests;
-      first_counts = c.open_archive.ensures.counts.later;
-      begun_counts = subst (λ d. mid.faults ≤ (g.D.Disk.state d).faults) same c.start.ensures.counts.later;
-      counts = opened.counts.later;
-    } in
+    let twice = opened_twice g.D.Disk.state law c.args.disk.now c.open_archive.new.disk c.start.new.disk
+    c.begin-journal.result.disk.now c.open_for_append.new.journal.disk.now c.begin-journal.ensures.disk
+    c.open_archive.ensures.keeps c.open_archive.ensures.counts.later c.start.ensures.keeps c.start.ensures.counts.later
+    opened.looks.rests opened.counts.later in
     let back = c.in_err-archive.disk-1-own.given.1 (sym (opened.looks.name ∙ c.begin-journal.ensures.name)) in
-    subst (λ d. DiskGoesOn old (g.D.Disk.state d)) (sym back) (twice_goes old mid late end twice)
+    subst (λ d. DiskGoesOn old (g.D.Disk.state d)) (sym back) (twice_goes twice)
 
 -- ---- the workers and the reader
 
@@ -183,15 +151,10 @@ add_founded-answer-requires-clause-held g c κs within = λ name.
     let opened = c.open_for_append.ensures in
     let same = sym c.begin-journal.ensures.disk in
     let seen = c.start.ensures.keeps.seen ∙ c.open_archive.ensures.keeps.seen in
-    let any : OpensAny (state_of c.begin-journal.result) (state_of c.open_for_append.new.journal) _ = record {
-      begins = subst (λ h. BeginsWith h (g.D.Disk.state c.begin-journal.result.disk.now)) (sym c.begin-journal.ensures.header) (subst (λ d. BeginsWith c.in_ok-header.header (g.D.Disk.state d)) same c.in_ok-header.ensures.begins);
-      looks = opened.looks;
-      opened = c.in_ok-archive.ensures.opened;
-      header = c.in_ok-archive.ensures.header;
-      ends = c.in_ok-archive.ensures.at_end;
-    } in
     let tells = g.L.Lent.tells in
-    let from = from_any tells name (state_of c.begin-journal.result) (state_of c.open_for_append.new.journal) _ any
+    let from = opens_from tells name c.begin-journal.result c.open_for_append.new.journal c.start.new.disk c.in_ok-header.header _
+    c.begin-journal.ensures.header c.begin-journal.ensures.disk c.in_ok-header.ensures.begins
+    opened.looks c.in_ok-archive.ensures.opened c.in_ok-archive.ensures.header c.in_ok-archive.ensures.at_end
     (λ told. subst (λ d. IfSome (g.D.Disk.state d).seen IsArchive) same (subst (λ t. IfSome t IsArchive) (sym seen) (c.requires.archive told))) in
     let books = c.into_books.ensures in
     let hold = c.hold-holding.ensures in
@@ -206,15 +169,10 @@ add_founded-answer-requires-clause-reader g c κs within = λ name.
     let opened = c.open_for_append.ensures in
     let same = sym c.begin-journal.ensures.disk in
     let seen = c.start.ensures.keeps.seen ∙ c.open_archive.ensures.keeps.seen in
-    let any : OpensAny (state_of c.begin-journal.result) (state_of c.open_for_append.new.journal) _ = record {
-      begins = subst (λ h. BeginsWith h (g.D.Disk.state c.begin-journal.result.disk.now)) (sym c.begin-journal.ensures.header) (subst (λ d. BeginsWith c.in_ok-header.header (g.D.Disk.state d)) same c.in_ok-header.ensures.begins);
-      looks = opened.looks;
-      opened = c.in_ok-archive.ensures.opened;
-      header = c.in_ok-archive.ensures.header;
-      ends = c.in_ok-archive.ensures.at_end;
-    } in
     let tells = g.L.Lent.tells in
-    let from = from_any tells name (state_of c.begin-journal.result) (state_of c.open_for_append.new.journal) _ any
+    let from = opens_from tells name c.begin-journal.result c.open_for_append.new.journal c.start.new.disk c.in_ok-header.header _
+    c.begin-journal.ensures.header c.begin-journal.ensures.disk c.in_ok-header.ensures.begins
+    opened.looks c.in_ok-archive.ensures.opened c.in_ok-archive.ensures.header c.in_ok-archive.ensures.at_end
     (λ told. subst (λ d. IfSome (g.D.Disk.state d).seen IsArchive) same (subst (λ t. IfSome t IsArchive) (sym seen) (c.requires.archive told))) in
     let made = c.new-reader.ensures in
     let now = lent_state tells name (state_of c.open_for_append.new.journal) in
@@ -228,22 +186,12 @@ returns-in-Ok-clause-added g c =
     let law = (g.met.D.Disk g.world.𝓛 g.world.𝓜 g.world.𝓡 ((λ s x. x), (λ x. x), (λ x. x), λ x. x)).lawful in
     let old = g.D.Disk.state c.args.disk.now in
     let mid = g.D.Disk.state c.open_archive.new.disk in
-    let late = g.D.Disk.state c.begin-journal.result.disk.now in
     let end = g.D.Disk.state c.open_for_append.new.journal.disk.now in
     let opened = c.open_for_append.ensures in
-    let same = sym c.begin-journal.ensures.disk in
-    let twice : OpenedTwice old mid late end = record {
-      law_old = law _;
-      law_mid = law _;
-      law_late = law _;
-      law_end = law _;
-      first = c.open_archive.ensures.keeps;
-      begun = subst (λ d. KeepsBytes mid (g.D.Disk.state d)) same c.start.ensures.keeps;
-      rests = opened.looks.rests;
-      first_counts = c.open_archive.ensures.counts.later;
-      begun_counts = subst (λ d. mid.faults ≤ (g.D.Disk.state d).faults) same c.start.ensures.counts.later;
-      counts = opened.counts.later;
-    } in
+    let twice = opened_twice g.D.Disk.state law c.args.disk.now c.open_archive.new.disk c.start.new.disk
+    c.begin-journal.result.disk.now c.open_for_append.new.journal.disk.now c.begin-journal.ensures.disk
+    c.open_archive.ensures.keeps c.open_archive.ensures.counts.later c.start.ensures.keeps c.start.ensures.counts.later
+    opened.looks.rests opened.counts.later in
     let done = c.add_founded-answer.ensures in
     let begun = c.new-reader.result in
     let w = c.add_founded-answer.new.reader in
@@ -257,21 +205,15 @@ returns-in-Ok-clause-added g c =
     let tells = g.L.Lent.tells in
     let last = g.D.Disk.state c.add_founded-answer.result.1.now in
     let back = c.disk-2-1.given.1 (sym (done.back ∙ (opened.looks.name ∙ c.begin-journal.ensures.name))) in
-    let seen = c.start.ensures.keeps.seen ∙ c.open_archive.ensures.keeps.seen in
-    let any : OpensAny (state_of c.begin-journal.result) (state_of c.open_for_append.new.journal) _ = record {
-      begins = subst (λ h. BeginsWith h (g.D.Disk.state c.begin-journal.result.disk.now)) (sym c.begin-journal.ensures.header) (subst (λ d. BeginsWith c.in_ok-header.header (g.D.Disk.state d)) same c.in_ok-header.ensures.begins);
-      looks = opened.looks;
-      opened = c.in_ok-archive.ensures.opened;
-      header = c.in_ok-archive.ensures.header;
-      ends = c.in_ok-archive.ensures.at_end;
-    } in
-    let from = from_any tells 0 (state_of c.begin-journal.result) (state_of c.open_for_append.new.journal) _ any
-    (λ told. subst (λ d. IfSome (g.D.Disk.state d).seen IsArchive) same (subst (λ t. IfSome t IsArchive) (sym seen) (c.requires.archive told))) in
+    let from = opens_from tells 0 c.begin-journal.result c.open_for_append.new.journal c.start.new.disk c.in_ok-header.header _
+    c.begin-journal.ensures.header c.begin-journal.ensures.disk c.in_ok-header.ensures.begins
+    opened.looks c.in_ok-archive.ensures.opened c.in_ok-archive.ensures.header c.in_ok-archive.ensures.at_end
+    (λ told. subst (λ t. IfSome t IsArchive) (sym (keeps_late twice).seen) (c.requires.archive told)) in
     let now = lent_state tells 0 (state_of c.open_for_append.new.journal) in
     let may = may_append (lent_state tells 0 (state_of c.begin-journal.result)) now _ from in
-    let looked = looked_told tells old mid end (looked_end old mid late end twice) in
-    let adds = subst (λ r. IfOk r (λ first. AddsNewLogs content logs c.args.asked first files (told_if tells end) (told_if tells last))) c.in-Ok.is done.added in
-    let follows = subst (λ r. OnOk r (Follows (live_follower written begun) (live_follower written w) c.args.asked.segment names came (told_if tells end) (told_if tells last))) c.in-Ok.is done.followed in
+    let looked = looked_told tells old mid end (looked_end twice) in
+    let adds = subst (λ r. IfOk r (λ first. AddsNewLogs content logs c.args.asked first files (told_if tells end) (told_if tells last))) c.in-Ok.is done.came.added in
+    let follows = subst (λ r. OnOk r (Follows (live_follower written begun) (live_follower written w) c.args.asked.segment names came (told_if tells end) (told_if tells last))) c.in-Ok.is done.followed.followed in
     let back_out = c.out-1.given.1 (sym (c.into_out-out.ensures.name ∙ (ap (λ (x : LiveFixed _). x.name) follows.fixed ∙ c.new-reader.ensures.name))) in
     let refused = c.refusal.ensures in
     subst (λ d. AddsWatched content logs c.args.asked c.args.pattern (record { first = c.in-Ok.first; reader = c.outcome_of-outcome.result }) files (written c.args.out.now, written c.out-1.given.0) (faults c.args.out.now, faults c.out-1.given.0) (told_if tells old) (told_if tells (g.D.Disk.state d))) (sym back)
@@ -287,48 +229,25 @@ pub returns-in-Ok-clause-goes_on : goal.returns-in-Ok-clause-goes_on
 returns-in-Ok-clause-goes_on g c =
     let law = (g.met.D.Disk g.world.𝓛 g.world.𝓜 g.world.𝓡 ((λ s x. x), (λ x. x), (λ x. x), λ x. x)).lawful in
     let old = g.D.Disk.state c.args.disk.now in
-    let mid = g.D.Disk.state c.open_archive.new.disk in
-    let late = g.D.Disk.state c.begin-journal.result.disk.now in
     let end = g.D.Disk.state c.open_for_append.new.journal.disk.now in
     let opened = c.open_for_append.ensures in
-    let same = sym c.begin-journal.ensures.disk in
-    let twice : OpenedTwice old mid late end = record {
-      law_old = law _;
-      law_mid = law _;
-      law_late = law _;
-      law_end = law _;
-      first = c.open_archive.ensures.keeps;
-      begun = subst (λ d. KeepsBytes mid (g.D.Disk.state d)) same c.start.ensures.keeps;
-      rests = opened.looks.rests;
-      first_counts = c.open_archive.ensures.counts.later;
-      begun_counts = subst (λ d. mid.faults ≤ (g.D.Disk.state d).faults) same c.start.ensures.counts.later;
-      counts = opened.counts.later;
-    } in
+    let twice = opened_twice g.D.Disk.state law c.args.disk.now c.open_archive.new.disk c.start.new.disk
+    c.begin-journal.result.disk.now c.open_for_append.new.journal.disk.now c.begin-journal.ensures.disk
+    c.open_archive.ensures.keeps c.open_archive.ensures.counts.later c.start.ensures.keeps c.start.ensures.counts.later
+    opened.looks.rests opened.counts.later in
     let done = c.add_founded-answer.ensures in
     let back = c.disk-2-1.given.1 (sym (done.back ∙ (opened.looks.name ∙ c.begin-journal.ensures.name))) in
-    subst (λ d. DiskGoesOn old (g.D.Disk.state d)) (sym back) (DiskGoesOn-joined old end _ (law _) (twice_goes old mid late end twice) done.goes_on)
+    subst (λ d. DiskGoesOn old (g.D.Disk.state d)) (sym back) (DiskGoesOn-joined old end _ (law _) (twice_goes twice) done.goes_on)
 
 pub returns-in-Ok-clause-later : goal.returns-in-Ok-clause-later
 returns-in-Ok-clause-later g c =
     let law = (g.met.D.Disk g.world.𝓛 g.world.𝓜 g.world.𝓡 ((λ s x. x), (λ x. x), (λ x. x), λ x. x)).lawful in
-    let old = g.D.Disk.state c.args.disk.now in
-    let mid = g.D.Disk.state c.open_archive.new.disk in
-    let late = g.D.Disk.state c.begin-journal.result.disk.now in
     let end = g.D.Disk.state c.open_for_append.new.journal.disk.now in
     let opened = c.open_for_append.ensures in
-    let same = sym c.begin-journal.ensures.disk in
-    let twice : OpenedTwice old mid late end = record {
-      law_old = law _;
-      law_mid = law _;
-      law_late = law _;
-      law_end = law _;
-      first = c.open_archive.ensures.keeps;
-      begun = subst (λ d. KeepsBytes mid (g.D.Disk.state d)) same c.start.ensures.keeps;
-      rests = opened.looks.rests;
-      first_counts = c.open_archive.ensures.counts.later;
-      begun_counts = subst (λ d. mid.faults ≤ (g.D.Disk.state d).faults) same c.start.ensures.counts.later;
-      counts = opened.counts.later;
-    } in
+    let twice = opened_twice g.D.Disk.state law c.args.disk.now c.open_archive.new.disk c.start.new.disk
+    c.begin-journal.result.disk.now c.open_for_append.new.journal.disk.now c.begin-journal.ensures.disk
+    c.open_archive.ensures.keeps c.open_archive.ensures.counts.later c.start.ensures.keeps c.start.ensures.counts.later
+    opened.looks.rests opened.counts.later in
     let done = c.add_founded-answer.ensures in
     let begun = c.new-reader.result in
     let w = c.add_founded-answer.new.reader in
@@ -341,7 +260,7 @@ returns-in-Ok-clause-later g c =
     let came = map (came_of content) files in
     let tells = g.L.Lent.tells in
     let last = g.D.Disk.state c.add_founded-answer.result.1.now in
-    let follows = subst (λ r. OnOk r (Follows (live_follower written begun) (live_follower written w) c.args.asked.segment names came (told_if tells end) (told_if tells last))) c.in-Ok.is done.followed in
+    let follows = subst (λ r. OnOk r (Follows (live_follower written begun) (live_follower written w) c.args.asked.segment names came (told_if tells end) (told_if tells last))) c.in-Ok.is done.followed.followed in
     let back_out = c.out-1.given.1 (sym (c.into_out-out.ensures.name ∙ (ap (λ (x : LiveFixed _). x.name) follows.fixed ∙ c.new-reader.ensures.name))) in
     subst (λ o. faults c.args.out.now ≤ faults o) (sym (back_out ∙ c.into_out-out.ensures.out))
     (subst (λ b. faults b ≤ faults w.out) (ap (λ (x : LiveFixed _). x.begun) follows.fixed ∙ c.new-reader.ensures.begun) c.refusal.ensures.later)
@@ -353,29 +272,19 @@ returns-in-Err-clause-refused g c =
     let law = (g.met.D.Disk g.world.𝓛 g.world.𝓜 g.world.𝓡 ((λ s x. x), (λ x. x), (λ x. x), λ x. x)).lawful in
     let old = g.D.Disk.state c.args.disk.now in
     let mid = g.D.Disk.state c.open_archive.new.disk in
-    let late = g.D.Disk.state c.begin-journal.result.disk.now in
     let end = g.D.Disk.state c.open_for_append.new.journal.disk.now in
     let opened = c.open_for_append.ensures in
-    let same = sym c.begin-journal.ensures.disk in
-    let twice : OpenedTwice old mid late end = record {
-      law_old = law _;
-      law_mid = law _;
-      law_late = law _;
-      law_end = law _;
-      first = c.open_archive.ensures.keeps;
-      begun = subst (λ d. KeepsBytes mid (g.D.Disk.state d)) same c.start.ensures.keeps;
-      rests = opened.looks.rests;
-      first_counts = c.open_archive.ensures.counts.later;
-      begun_counts = subst (λ d. mid.faults ≤ (g.D.Disk.state d).faults) same c.start.ensures.counts.later;
-      counts = opened.counts.later;
-    } in
+    let twice = opened_twice g.D.Disk.state law c.args.disk.now c.open_archive.new.disk c.start.new.disk
+    c.begin-journal.result.disk.now c.open_for_append.new.journal.disk.now c.begin-journal.ensures.disk
+    c.open_archive.ensures.keeps c.open_archive.ensures.counts.later c.start.ensures.keeps c.start.ensures.counts.later
+    opened.looks.rests opened.counts.later in
     let done = c.add_founded-answer.ensures in
     let back = c.disk-2-1.given.1 (sym (done.back ∙ (opened.looks.name ∙ c.begin-journal.ensures.name))) in
     let tells = g.L.Lent.tells in
     let last = g.D.Disk.state c.add_founded-answer.result.1.now in
-    let refuses = subst (λ r. IfErr r (RefusesNewLogs c.args.asked (told_if tells end) (told_if tells last))) c.in-Err.is done.refused in
+    let refuses = subst (λ r. IfErr r (RefusesNewLogs c.args.asked (told_if tells end) (told_if tells last))) c.in-Err.is done.came.refused in
     subst (λ d. RefusesNewLogs c.args.asked (told_if tells old) (told_if tells (g.D.Disk.state d)) c.in-Err.refusal) (sym back)
-    (refuses_looked (told_if tells old) (told_if tells mid) (told_if tells end) (looked_told tells old mid end (looked_end old mid late end twice)) (told_if tells last) (goes_told tells end last done.goes_on) c.args.asked c.in-Err.refusal refuses)
+    (refuses_looked (told_if tells old) (told_if tells mid) (told_if tells end) (looked_told tells old mid end (looked_end twice)) (told_if tells last) (goes_told tells end last done.goes_on) c.args.asked c.in-Err.refusal refuses)
 
 pub returns-in-Err-clause-damaged : goal.returns-in-Err-clause-damaged
 returns-in-Err-clause-damaged g c =
@@ -383,7 +292,7 @@ returns-in-Err-clause-damaged g c =
 
 pub returns-in-Err-clause-rests : goal.returns-in-Err-clause-rests
 returns-in-Err-clause-rests g c =
-    let rests = subst (λ r. OnErr r (c.add_founded-answer.new.reader ≡ c.new-reader.result)) c.in-Err.is c.add_founded-answer.ensures.rests in
+    let rests = subst (λ r. OnErr r (c.add_founded-answer.new.reader ≡ c.new-reader.result)) c.in-Err.is c.add_founded-answer.ensures.followed.rests in
     let back_out = c.out-1.given.1 (sym (c.into_out-out.ensures.name ∙ (ap (λ (v : LiveView _). v.name) rests ∙ c.new-reader.ensures.name))) in
     let same = back_out ∙ (c.into_out-out.ensures.out ∙ (ap (λ (v : LiveView _). v.out) rests ∙ c.new-reader.ensures.out)) in
     same
@@ -392,30 +301,19 @@ pub returns-in-Err-clause-goes_on : goal.returns-in-Err-clause-goes_on
 returns-in-Err-clause-goes_on g c =
     let law = (g.met.D.Disk g.world.𝓛 g.world.𝓜 g.world.𝓡 ((λ s x. x), (λ x. x), (λ x. x), λ x. x)).lawful in
     let old = g.D.Disk.state c.args.disk.now in
-    let mid = g.D.Disk.state c.open_archive.new.disk in
-    let late = g.D.Disk.state c.begin-journal.result.disk.now in
     let end = g.D.Disk.state c.open_for_append.new.journal.disk.now in
     let opened = c.open_for_append.ensures in
-    let same = sym c.begin-journal.ensures.disk in
-    let twice : OpenedTwice old mid late end = record {
-      law_old = law _;
-      law_mid = law _;
-      law_late = law _;
-      law_end = law _;
-      first = c.open_archive.ensures.keeps;
-      begun = subst (λ d. KeepsBytes mid (g.D.Disk.state d)) same c.start.ensures.keeps;
-      rests = opened.looks.rests;
-      first_counts = c.open_archive.ensures.counts.later;
-      begun_counts = subst (λ d. mid.faults ≤ (g.D.Disk.state d).faults) same c.start.ensures.counts.later;
-      counts = opened.counts.later;
-    } in
+    let twice = opened_twice g.D.Disk.state law c.args.disk.now c.open_archive.new.disk c.start.new.disk
+    c.begin-journal.result.disk.now c.open_for_append.new.journal.disk.now c.begin-journal.ensures.disk
+    c.open_archive.ensures.keeps c.open_archive.ensures.counts.later c.start.ensures.keeps c.start.ensures.counts.later
+    opened.looks.rests opened.counts.later in
     let done = c.add_founded-answer.ensures in
     let back = c.disk-2-1.given.1 (sym (done.back ∙ (opened.looks.name ∙ c.begin-journal.ensures.name))) in
-    subst (λ d. DiskGoesOn old (g.D.Disk.state d)) (sym back) (DiskGoesOn-joined old end _ (law _) (twice_goes old mid late end twice) done.goes_on)
+    subst (λ d. DiskGoesOn old (g.D.Disk.state d)) (sym back) (DiskGoesOn-joined old end _ (law _) (twice_goes twice) done.goes_on)
 
 pub returns-in-Err-clause-later : goal.returns-in-Err-clause-later
 returns-in-Err-clause-later g c =
-    let rests = subst (λ r. OnErr r (c.add_founded-answer.new.reader ≡ c.new-reader.result)) c.in-Err.is c.add_founded-answer.ensures.rests in
+    let rests = subst (λ r. OnErr r (c.add_founded-answer.new.reader ≡ c.new-reader.result)) c.in-Err.is c.add_founded-answer.ensures.followed.rests in
     let back_out = c.out-1.given.1 (sym (c.into_out-out.ensures.name ∙ (ap (λ (v : LiveView _). v.name) rests ∙ c.new-reader.ensures.name))) in
     let same = back_out ∙ (c.into_out-out.ensures.out ∙ (ap (λ (v : LiveView _). v.out) rests ∙ c.new-reader.ensures.out)) in
     subst (λ o. g.K.Sink.faults c.args.out.now ≤ g.K.Sink.faults o) (sym same) (omega arith)

@@ -1,4 +1,4 @@
-use Rattle.std.proofs.Common.{ap, arith, inl, inr, map, refl, subst, sym, List}
+use Rattle.std.proofs.Common.{ap, arith, inr, map, refl, subst, sym, List}
 use Rattle.std.proofs.lemmas.List.{length-map}
 use Rattle.log_sources.specs.Sources.{str_bytes}
 use Rattle.command_refusals.specs.Outcome.{answer_of}

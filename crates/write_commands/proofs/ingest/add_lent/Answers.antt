@@ -1,11 +1,8 @@
-use Rattle.std.proofs.Common.{ap, arith, length, map, refl, subst, sym, ◌≡◌, ◌≤◌, ◌∙◌}
-use Rattle.std.specs.Prelude.{IfErr, IfOk, IfSome, is_some}
+use Rattle.std.proofs.Common.{ap, length, map, refl, subst, sym, ◌∙◌}
+use Rattle.std.specs.Prelude.{IfErr, IfOk, IfSome}
 use Rattle.std.proofs.lemmas.Result.{IfErr-weaker, IfOk-weaker, err_from_is_err_and}
 use Rattle.archive_open.specs.Kept.{Kept}
 use Rattle.disk_journal.specs.Journal.{state_of}
-use Rattle.disk_journal.specs.State.{BeginsWith}
-use Rattle.log_seams.specs.Disk.{KeepsBytes}
-use Rattle.log_seams.proofs.MomentLemmas.{keeps_on}
 use Rattle.log_sources.specs.Sources.{str_bytes}
 use Rattle.command_refusals.specs.GoesOn.{DiskGoesOn}
 use Rattle.command_refusals.specs.Outcome.{add_from_archive}
@@ -18,9 +15,9 @@ use Rattle.write_commands.specs.StepsKnown.{lent_state}
 use Rattle.command_refusals.proofs.GoingLemmas.{DiskGoesOn-joined}
 use Rattle.write_commands.proofs.AppendLemmas.{is_held}
 use Rattle.write_commands.proofs.CauseLemmas.{archive_cause, cause_sooner, refused_with, refuses_with, start_cause}
-use Rattle.write_commands.proofs.HeldLemmas.{adds_looked, looked_first, looked_goes, refuses_looked, rests_keep}
-use Rattle.write_commands.proofs.LentLemmas.{OpensAny, archive_damage, damage_sooner, damaged_with, from_any, goes_told, looked_told, no_damage, opens_told, refuses_told, start_damage}
-use Rattle.write_commands.proofs.StepsLemmas.{Looked, kept_nothing, looked_nothing}
+use Rattle.write_commands.proofs.HeldLemmas.{adds_looked, once_first, once_goes, once_keeps, once_nothing, opened_once, refuses_looked, rests_keep}
+use Rattle.write_commands.proofs.LentLemmas.{archive_damage, damage_sooner, damaged_with, goes_told, looked_told, no_damage, opens_from, opens_told, refuses_told, start_damage}
+use Rattle.write_commands.proofs.StepsLemmas.{kept_nothing}
 use Rattle.write_commands.proofs.ingest.add_lent.Goals as goal
 
 -- ---- refused
@@ -49,25 +46,18 @@ returns-in_err-archive-clause-refused g c =
     let mid = g.D.Disk.state c.begin-journal.result.disk.now in
     let late = g.D.Disk.state c.open_for_append.new.journal.disk.now in
     let opened = c.open_for_append.ensures in
-    let same = sym c.begin-journal.ensures.disk in
-    let risen = subst (λ d. old.faults ≤ (g.D.Disk.state d).faults) same c.start.ensures.counts.later in
-    let looked : Looked old mid late = record {
-      law_old = law _;
-      law_mid = law _;
-      law_new = law _;
-      first = subst (λ d. KeepsBytes old (g.D.Disk.state d)) same c.start.ensures.keeps;
-      second = rests_keep mid late opened.looks.rests;
-      counts = omega (arith, risen, opened.counts.later);
-    } in
+    let once = opened_once g.D.Disk.state law c.args.disk.now c.start.new.disk c.begin-journal.result.disk.now
+    c.open_for_append.new.journal.disk.now c.begin-journal.ensures.disk c.start.ensures.keeps c.start.ensures.counts.later
+    opened.looks.rests opened.counts.later in
     let p = err_from_is_err_and c.from_residual-in_err-archive.result c.from_residual-in_err-archive.ensures.1 in
     let back = c.in_err-archive.disk-1-own.given.1 (sym (opened.looks.name ∙ c.begin-journal.ensures.name)) in
     subst (λ d. IfErr c.from_residual-in_err-archive.result (RefusesNewLogs c.args.asked (told_if g.L.Lent.tells old) (told_if g.L.Lent.tells (g.D.Disk.state d)))) (sym back)
     (refuses_told g.L.Lent.tells c.args.asked old late c.from_residual-in_err-archive.result
     (refuses_with c.args.asked old late c.from_residual-in_err-archive.result
     (refused_with (map str_bytes c.args.asked.files.now) old late c.from_residual-in_err-archive.result p.0 _ p.1 p.2
-    (cause_sooner (map str_bytes c.args.asked.files.now) old old mid late (looked_first old mid late looked risen) (add_from_archive c.in_err-archive.field-0.0)
+    (cause_sooner (map str_bytes c.args.asked.files.now) old old mid late (once_first once) (add_from_archive c.in_err-archive.field-0.0)
     (archive_cause (map str_bytes c.args.asked.files.now) mid late c.open_for_append.result c.in_err-archive.field-0.0 c.in_err-archive.was (rests_keep mid late opened.looks.rests) opened.damaged opened.counts)))
-    (looked_nothing old mid late looked)))
+    (once_nothing once)))
 
 pub returns-in_err-archive-clause-damaged : goal.returns-in_err-archive-clause-damaged
 returns-in_err-archive-clause-damaged g c =
@@ -76,22 +66,15 @@ returns-in_err-archive-clause-damaged g c =
     let mid = g.D.Disk.state c.begin-journal.result.disk.now in
     let late = g.D.Disk.state c.open_for_append.new.journal.disk.now in
     let opened = c.open_for_append.ensures in
-    let same = sym c.begin-journal.ensures.disk in
-    let risen = subst (λ d. old.faults ≤ (g.D.Disk.state d).faults) same c.start.ensures.counts.later in
-    let looked : Looked old mid late = record {
-      law_old = law _;
-      law_mid = law _;
-      law_new = law _;
-      first = subst (λ d. KeepsBytes old (g.D.Disk.state d)) same c.start.ensures.keeps;
-      second = rests_keep mid late opened.looks.rests;
-      counts = omega (arith, risen, opened.counts.later);
-    } in
+    let once = opened_once g.D.Disk.state law c.args.disk.now c.start.new.disk c.begin-journal.result.disk.now
+    c.open_for_append.new.journal.disk.now c.begin-journal.ensures.disk c.start.ensures.keeps c.start.ensures.counts.later
+    opened.looks.rests opened.counts.later in
     let p = err_from_is_err_and c.from_residual-in_err-archive.result c.from_residual-in_err-archive.ensures.1 in
     let back = c.in_err-archive.disk-1-own.given.1 (sym (opened.looks.name ∙ c.begin-journal.ensures.name)) in
     subst (λ d. IfErr c.from_residual-in_err-archive.result (TellsDamage old (g.D.Disk.state d))) (sym back)
     (damaged_with old late c.from_residual-in_err-archive.result p.0 _ p.1 p.2
-    (damage_sooner old mid late looked.first.seen (keeps_on old mid late looked.first opened.looks.rests) (add_from_archive c.in_err-archive.field-0.0)
-    (archive_damage mid late c.open_for_append.result c.in_err-archive.field-0.0 c.in_err-archive.was looked.second opened.damaged)))
+    (damage_sooner old mid late once.looked.first.seen (once_keeps once) (add_from_archive c.in_err-archive.field-0.0)
+    (archive_damage mid late c.open_for_append.result c.in_err-archive.field-0.0 c.in_err-archive.was once.looked.second opened.damaged)))
 
 pub returns-in_err-archive-clause-goes_on : goal.returns-in_err-archive-clause-goes_on
 returns-in_err-archive-clause-goes_on g c =
@@ -100,18 +83,11 @@ returns-in_err-archive-clause-goes_on g c =
     let mid = g.D.Disk.state c.begin-journal.result.disk.now in
     let late = g.D.Disk.state c.open_for_append.new.journal.disk.now in
     let opened = c.open_for_append.ensures in
-    let same = sym c.begin-journal.ensures.disk in
-    let risen = subst (λ d. old.faults ≤ (g.D.Disk.state d).faults) same c.start.ensures.counts.later in
-    let looked : Looked old mid late = record {
-      law_old = law _;
-      law_mid = law _;
-      law_new = law _;
-      first = subst (λ d. KeepsBytes old (g.D.Disk.state d)) same c.start.ensures.keeps;
-      second = rests_keep mid late opened.looks.rests;
-      counts = omega (arith, risen, opened.counts.later);
-    } in
+    let once = opened_once g.D.Disk.state law c.args.disk.now c.start.new.disk c.begin-journal.result.disk.now
+    c.open_for_append.new.journal.disk.now c.begin-journal.ensures.disk c.start.ensures.keeps c.start.ensures.counts.later
+    opened.looks.rests opened.counts.later in
     let back = c.in_err-archive.disk-1-own.given.1 (sym (opened.looks.name ∙ c.begin-journal.ensures.name)) in
-    subst (λ d. DiskGoesOn old (g.D.Disk.state d)) (sym back) (looked_goes old mid late looked risen opened.counts.later)
+    subst (λ d. DiskGoesOn old (g.D.Disk.state d)) (sym back) (once_goes once)
 
 -- ---- taken in
 
@@ -124,16 +100,10 @@ add_founded-answer-requires-clause-told g c κs within = refl
 pub add_founded-answer-requires-clause-held : goal.add_founded-answer-requires-clause-held
 add_founded-answer-requires-clause-held g c κs within = λ name.
     let opened = c.open_for_append.ensures in
-    let same = sym c.begin-journal.ensures.disk in
-    let any : OpensAny (state_of c.begin-journal.result) (state_of c.open_for_append.new.journal) _ = record {
-      begins = subst (λ h. BeginsWith h (g.D.Disk.state c.begin-journal.result.disk.now)) (sym c.begin-journal.ensures.header) (subst (λ d. BeginsWith c.in_ok-header.header (g.D.Disk.state d)) same c.in_ok-header.ensures.begins);
-      looks = opened.looks;
-      opened = c.in_ok-archive.ensures.opened;
-      header = c.in_ok-archive.ensures.header;
-      ends = c.in_ok-archive.ensures.at_end;
-    } in
-    let from = from_any g.L.Lent.tells name (state_of c.begin-journal.result) (state_of c.open_for_append.new.journal) _ any
-    (λ tells. subst (λ d. IfSome (g.D.Disk.state d).seen IsArchive) same (subst (λ t. IfSome t IsArchive) (sym c.start.ensures.keeps.seen) (c.requires.archive tells))) in
+    let from = opens_from g.L.Lent.tells name c.begin-journal.result c.open_for_append.new.journal c.start.new.disk c.in_ok-header.header _
+    c.begin-journal.ensures.header c.begin-journal.ensures.disk c.in_ok-header.ensures.begins
+    opened.looks c.in_ok-archive.ensures.opened c.in_ok-archive.ensures.header c.in_ok-archive.ensures.at_end
+    (λ tells. subst (λ d. IfSome (g.D.Disk.state d).seen IsArchive) (sym c.begin-journal.ensures.disk) (subst (λ t. IfSome t IsArchive) (sym c.start.ensures.keeps.seen) (c.requires.archive tells))) in
     let books = c.into_books.ensures in
     let hold = c.hold-holding.ensures in
     rw (hold.types) (rw (hold.words) (rw (hold.files) (is_held (lent_state g.L.Lent.tells name (state_of c.begin-journal.result)) (lent_state g.L.Lent.tells name (state_of c.open_for_append.new.journal)) _ _ from
@@ -148,21 +118,14 @@ returns-clause-added g c =
     let mid = g.D.Disk.state c.begin-journal.result.disk.now in
     let late = g.D.Disk.state c.open_for_append.new.journal.disk.now in
     let opened = c.open_for_append.ensures in
-    let same = sym c.begin-journal.ensures.disk in
-    let risen = subst (λ d. old.faults ≤ (g.D.Disk.state d).faults) same c.start.ensures.counts.later in
-    let looked : Looked old mid late = record {
-      law_old = law _;
-      law_mid = law _;
-      law_new = law _;
-      first = subst (λ d. KeepsBytes old (g.D.Disk.state d)) same c.start.ensures.keeps;
-      second = rests_keep mid late opened.looks.rests;
-      counts = omega (arith, risen, opened.counts.later);
-    } in
+    let once = opened_once g.D.Disk.state law c.args.disk.now c.start.new.disk c.begin-journal.result.disk.now
+    c.open_for_append.new.journal.disk.now c.begin-journal.ensures.disk c.start.ensures.keeps c.start.ensures.counts.later
+    opened.looks.rests opened.counts.later in
     let done = c.add_founded-answer.ensures in
     let back = c.disk-2-1.given.1 (sym (done.back ∙ (opened.looks.name ∙ c.begin-journal.ensures.name))) in
     let tells = g.L.Lent.tells in
     subst (λ d. IfOk c.add_founded-answer.result.0 (λ first. AddsNewLogs (g.H.Shelf.content c.args.shelf.now) (logs_around g.H.Shelf.unread g.H.Shelf.open_faults g.H.Shelf.read_faults c.args.shelf.now c.add_founded-answer.new.shelf) c.args.asked first c.add_founded-answer.new.taken.items (told_if tells old) (told_if tells (g.D.Disk.state d)))) (sym back)
-    (IfOk-weaker c.add_founded-answer.result.0 _ _ (λ first adds. adds_looked (told_if tells old) (told_if tells mid) (told_if tells late) (looked_told tells old mid late looked) _ (goes_told tells late _ done.goes_on) c.args.asked (g.H.Shelf.content c.args.shelf.now) _ first c.add_founded-answer.new.taken.items adds) done.added)
+    (IfOk-weaker c.add_founded-answer.result.0 _ _ (λ first adds. adds_looked (told_if tells old) (told_if tells mid) (told_if tells late) (looked_told tells old mid late once.looked) _ (goes_told tells late _ done.goes_on) c.args.asked (g.H.Shelf.content c.args.shelf.now) _ first c.add_founded-answer.new.taken.items adds) done.came.added)
 
 pub returns-clause-refused : goal.returns-clause-refused
 returns-clause-refused g c =
@@ -171,21 +134,14 @@ returns-clause-refused g c =
     let mid = g.D.Disk.state c.begin-journal.result.disk.now in
     let late = g.D.Disk.state c.open_for_append.new.journal.disk.now in
     let opened = c.open_for_append.ensures in
-    let same = sym c.begin-journal.ensures.disk in
-    let risen = subst (λ d. old.faults ≤ (g.D.Disk.state d).faults) same c.start.ensures.counts.later in
-    let looked : Looked old mid late = record {
-      law_old = law _;
-      law_mid = law _;
-      law_new = law _;
-      first = subst (λ d. KeepsBytes old (g.D.Disk.state d)) same c.start.ensures.keeps;
-      second = rests_keep mid late opened.looks.rests;
-      counts = omega (arith, risen, opened.counts.later);
-    } in
+    let once = opened_once g.D.Disk.state law c.args.disk.now c.start.new.disk c.begin-journal.result.disk.now
+    c.open_for_append.new.journal.disk.now c.begin-journal.ensures.disk c.start.ensures.keeps c.start.ensures.counts.later
+    opened.looks.rests opened.counts.later in
     let done = c.add_founded-answer.ensures in
     let back = c.disk-2-1.given.1 (sym (done.back ∙ (opened.looks.name ∙ c.begin-journal.ensures.name))) in
     let tells = g.L.Lent.tells in
     subst (λ d. IfErr c.add_founded-answer.result.0 (RefusesNewLogs c.args.asked (told_if tells old) (told_if tells (g.D.Disk.state d)))) (sym back)
-    (IfErr-weaker c.add_founded-answer.result.0 _ _ (λ refusal refuses. refuses_looked (told_if tells old) (told_if tells mid) (told_if tells late) (looked_told tells old mid late looked) _ (goes_told tells late _ done.goes_on) c.args.asked refusal refuses) done.refused)
+    (IfErr-weaker c.add_founded-answer.result.0 _ _ (λ refusal refuses. refuses_looked (told_if tells old) (told_if tells mid) (told_if tells late) (looked_told tells old mid late once.looked) _ (goes_told tells late _ done.goes_on) c.args.asked refusal refuses) done.came.refused)
 
 pub returns-clause-damaged : goal.returns-clause-damaged
 returns-clause-damaged g c = IfErr-weaker c.add_founded-answer.result.0 _ _ (λ refusal none. no_damage _ _ refusal none) c.add_founded-answer.ensures.undamaged
@@ -197,17 +153,10 @@ returns-clause-goes_on g c =
     let mid = g.D.Disk.state c.begin-journal.result.disk.now in
     let late = g.D.Disk.state c.open_for_append.new.journal.disk.now in
     let opened = c.open_for_append.ensures in
-    let same = sym c.begin-journal.ensures.disk in
-    let risen = subst (λ d. old.faults ≤ (g.D.Disk.state d).faults) same c.start.ensures.counts.later in
-    let looked : Looked old mid late = record {
-      law_old = law _;
-      law_mid = law _;
-      law_new = law _;
-      first = subst (λ d. KeepsBytes old (g.D.Disk.state d)) same c.start.ensures.keeps;
-      second = rests_keep mid late opened.looks.rests;
-      counts = omega (arith, risen, opened.counts.later);
-    } in
+    let once = opened_once g.D.Disk.state law c.args.disk.now c.start.new.disk c.begin-journal.result.disk.now
+    c.open_for_append.new.journal.disk.now c.begin-journal.ensures.disk c.start.ensures.keeps c.start.ensures.counts.later
+    opened.looks.rests opened.counts.later in
     let done = c.add_founded-answer.ensures in
     let back = c.disk-2-1.given.1 (sym (done.back ∙ (opened.looks.name ∙ c.begin-journal.ensures.name))) in
     subst (λ d. DiskGoesOn old (g.D.Disk.state d)) (sym back)
-    (DiskGoesOn-joined old late _ (law _) (looked_goes old mid late looked risen opened.counts.later) done.goes_on)
+    (DiskGoesOn-joined old late _ (law _) (once_goes once) done.goes_on)
