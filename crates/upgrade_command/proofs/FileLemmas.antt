@@ -1,13 +1,11 @@
 -- What a new archive has of each file.
-use Rattle.std.proofs.Common.{◌≡◌, ◌≢◌, ◌+◌, ◌≤◌, ◌<◌, ◌&&◌, inl, inr, refl, sym, ap, ap₂, subst, ◌∙◌, ℕ, zero, suc, Bool, true, false, List, [], ◌∷◌, ◌++◌, length, map, Option, Some, None, arith}
-use Rattle.std.specs.Prelude.{All, is_some, option_map, slice_get}
+use Rattle.std.proofs.Common.{◌≡◌, ◌≢◌, ◌+◌, ◌<◌, ◌&&◌, refl, sym, ap, ap₂, subst, ◌∙◌, ℕ, suc, Bool, true, false, List, [], ◌∷◌, ◌++◌, length, map, Option, Some, None, arith}
+use Rattle.std.specs.Prelude.{is_some, option_map, slice_get}
 use Rattle.std.specs.List.{AllZip}
-use Rattle.std.proofs.lemmas.List.Elements.{All-nil}
 use mathlib.Core.List.{IsPrefix}
 use Rattle.log_seams.specs.declared.disk.Disk.{Ghosts as DiskGhosts}
 use Rattle.record_format.specs.declared.header.Header.{Header}
 use Rattle.record_format.specs.declared.header.TheConstants.{LAST_VERSION}
-use Rattle.column_store.specs.Columns.{IsFull}
 use Rattle.disk_journal.specs.Journal.{state_of}
 use Rattle.disk_journal.specs.declared.journal.Journal.{Journal}
 use Rattle.archive_meaning.specs.Held.{File, Held, Piece, files_from, is_ended, is_whole, messages_of, nothing_held}
@@ -17,7 +15,6 @@ use Rattle.archive_open.specs.Shown.{counted}
 use Rattle.archive_open.specs.declared.files.FileEntry.{FileEntry}
 use Rattle.archive_text.specs.State.{StoredState}
 use Rattle.ingest_meaning.specs.Given.{AreAllOf}
-use Rattle.ingest_meaning.specs.Parts.{IsCut, Part, columns_of, front, messages_in, rest_of, segments_from}
 use Rattle.ingest_workers.specs.Ingested.{IsFileOf, OfMessages, plan_of, told_entries}
 use Rattle.ingest_workers.specs.Journal.{FrontHolds}
 use Rattle.ingest_workers.specs.JobDone.{in_source}
@@ -27,7 +24,7 @@ use Rattle.file_lines.specs.Directory.{FileLine, line_of_file}
 use Rattle.command_answers.specs.Ingested.{FileOutcome, IsCutInto, line_of_came}
 use Rattle.name_records.proofs.LeftLemmas.{of_told}
 use Rattle.write_commands.specs.Jobs.{of_cause}
-use Rattle.write_commands.proofs.ContentLemmas.{HasParts}
+use Rattle.write_commands.proofs.ContentLemmas.{HasParts, cut_of_parts, file_in, file_is, named_files, no_parts}
 use Rattle.write_commands.proofs.JoinLemmas.{HasNone}
 use Rattle.write_commands.proofs.PieceLemmas.{HoldsOf, one_file}
 use Rattle.upgrade_command.specs.Files.{outcome_by, text_left}
@@ -54,9 +51,6 @@ pub record IsFileFor (c : FileOutcome) (f : File) : Type 0 where
   pub first : OfMessages LAST_VERSION c.log (λ messages e. IsPrefix f.messages messages)
   pub none : c.refusal ≡ None → AreAllOf LAST_VERSION c.log f.messages
   pub all : c.whole ≡ true → OfMessages LAST_VERSION c.log (λ messages e. (f.messages ≡ messages) × (f.ended ≡ e))
-
-abbrev file_in : FileOutcome → ℕ → List Piece → File
-file_in c file ps = record { name = c.name; messages = messages_of file ps; whole = is_whole file ps; ended = is_ended file ps }
 
 of_log_map : (version : ℕ) (log : Option (List ℕ)) (P Q : List (List ℕ) → Bool → Type 0) → ((messages : List (List ℕ)) (e : Bool) → P messages e → Q messages e) → OfMessages version log P → OfMessages version log Q
 of_log_map version None P Q on p = tt
@@ -96,75 +90,14 @@ lines_for (c ∷ came) (f ∷ fs) zip =
 
 -- ---- its segments
 
-rest_of_whole : (file n : ℕ) (whole ended : Bool) (rest : Part) → rest_of file n whole ended rest ≡ rest_of file n whole (whole && ended) rest
-rest_of_whole file n true ended rest = refl
-rest_of_whole file n false ended rest = refl
-
-file_is : (ps : List Piece) (k : ℕ) (names : List (List ℕ)) (i : ℕ) (f : File) → slice_get (files_from k names ps) i ≡ Some f → (f.messages ≡ messages_of (k + i) ps) × (f.whole ≡ is_whole (k + i) ps) × (f.ended ≡ is_ended (k + i) ps)
-file_is ps k [] i f at = absurd (cc (at))
-file_is ps k (name ∷ names) zero f at =
-    let here : k ≡ k + 0 = omega arith in
-    let is : record { name = name; messages = messages_of k ps; whole = is_whole k ps; ended = is_ended k ps } ≡ f = cc (at) in (
-      sym (ap (λ (x : File). x.messages) is) ∙ ap (λ n. messages_of n ps) here,
-      sym (ap (λ (x : File). x.whole) is) ∙ ap (λ n. is_whole n ps) here,
-      sym (ap (λ (x : File). x.ended) is) ∙ ap (λ n. is_ended n ps) here,
-    )
-file_is ps k (name ∷ names) (suc i) f at =
-    let here : (k + 1) + i ≡ k + suc i = omega arith in
-    let rest = file_is ps (k + 1) names i f at in
-    (rest.0 ∙ ap (λ n. messages_of n ps) here, rest.1 ∙ ap (λ n. is_whole n ps) here, rest.2 ∙ ap (λ n. is_ended n ps) here)
-
-cut_of_filled : (rows : ℕ) (fresh : List JournalEntry) (ps : List Piece) (file : ℕ) (c : FileOutcome) (f : File) → IsFilled rows fresh ps file c
-    → (f.messages ≡ messages_of file ps) × (f.whole ≡ is_whole file ps) × (f.ended ≡ is_ended file ps) → IsCutInto rows file f fresh
-cut_of_filled rows fresh ps file c f told is = record {
-  closed = told.cut.closed;
-  rest = told.cut.rest;
-  parts = is.0 ∙ (told.holds.messages ∙ told.cut.parts);
-  cut = told.cut.cut;
-  not_yet = told.cut.not_yet;
-  segments = told.cut.segments ∙ ap (λ l. segments_from file 0 told.cut.closed ++ l) (rest_of_whole file n c.whole told.ended told.cut.rest
-      ∙ ap₂ (λ w e. rest_of file n w e told.cut.rest) (sym (is.1 ∙ told.holds.whole_is)) (sym (is.2 ∙ told.holds.ended_is)));
-}
-  where
-    n : ℕ
-    n = length (messages_in told.cut.closed)
-
-beside : {A B : Type 0} (R : A → B → Type 0) (xs : List A) (ys : List B) (i : ℕ) (y : B) → AllZip R xs ys → slice_get ys i ≡ Some y → (x : A) × (slice_get xs i ≡ Some x)
-beside R [] [] i y zip at = absurd (cc (at))
-beside R [] (z ∷ ys) i y zip at = absurd zip
-beside R (x ∷ xs) [] i y zip at = absurd (cc (at))
-beside R (x ∷ xs) (z ∷ ys) zero y zip at = (x, refl)
-beside R (x ∷ xs) (z ∷ ys) (suc i) y zip at = beside R xs ys i y zip.1 at
-
 pub cuts_for : (rows : ℕ) (fresh : List JournalEntry) (ps : List Piece) (names : List (List ℕ)) (came : List FileOutcome) → ((i : ℕ) (c : FileOutcome) → slice_get came i ≡ Some c → IsFilled rows fresh ps i c)
     → AllZip IsFileFor came (files_from 0 names ps) → (i : ℕ) (f : File) → slice_get (files_from 0 names ps) i ≡ Some f → IsCutInto rows i f fresh
 cuts_for rows fresh ps names came each zip i f at =
-    let c = beside IsFileFor came (files_from 0 names ps) i f zip at in
-    cut_of_filled rows fresh ps i c.0 f (each i c.0 c.1) (subst (λ n. (f.messages ≡ messages_of n ps) × (f.whole ≡ is_whole n ps) × (f.ended ≡ is_ended n ps)) (omega arith) (file_is ps 0 names i f at))
+    let c = named_files IsFileFor came (files_from 0 names ps) i f zip at in
+    let filled = each i c.0 c.1 in
+    cut_of_parts rows fresh ps i f filled.covered c.0.whole filled.ended filled.holds filled.cut (subst (λ n. (f.messages ≡ messages_of n ps) × (f.whole ≡ is_whole n ps) × (f.ended ≡ is_ended n ps)) (omega arith) (file_is ps 0 names i f at))
 
 -- ---- from its job
-
--- where nothing was added there is one part without messages
-abbrev no_part : Part
-no_part = record { rows = []; messages = [] }
-
-no_parts : (rows file : ℕ) (ended : Bool) → 0 < rows → HasParts rows file [] [] false ended
-no_parts rows file ended some = record {
-  closed = [];
-  rest = no_part;
-  parts = refl;
-  cut = All-nil (IsCut rows);
-  not_yet = record { even = refl; not_yet = λ k within full. absurd (omega (arith, some, many k full)) };
-  segments = refl;
-}
-  where
-    many : (k : ℕ) → IsFull (columns_of (front k no_part)) rows → rows ≤ 0
-    many zero (inl rows_are) = rows_are
-    many zero (inr (inl variables)) = absurd (omega (arith, variables))
-    many zero (inr (inr bytes)) = absurd (omega (arith, bytes))
-    many (suc k) (inl rows_are) = rows_are
-    many (suc k) (inr (inl variables)) = absurd (omega (arith, variables))
-    many (suc k) (inr (inr bytes)) = absurd (omega (arith, bytes))
 
 module _ (h : Header) (es fresh : List JournalEntry) (mid held : Held) (ran : Run h nothing_held es mid) (run : Run h mid fresh held) (nothing : mid.pieces ≡ []) (version : h.version ≡ LAST_VERSION) where
   none_held : (file : ℕ) → HasNone file mid.pieces

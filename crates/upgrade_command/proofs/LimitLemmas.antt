@@ -1,8 +1,8 @@
 -- Why not all of a file was taken in: a dictionary or the archive was full.
-use Rattle.std.proofs.Common.{◌≡◌, ◌≢◌, ◌+◌, ◌<◌, ◌⊎◌, inl, inr, refl, sym, ap, subst, ◌∙◌, ℕ, zero, suc, true, List, [], ◌∷◌, length, take, Option, Some, None, arith}
+use Rattle.std.proofs.Common.{◌≡◌, ◌≢◌, ◌+◌, ◌⊎◌, inl, inr, refl, sym, ap, subst, ◌∙◌, ℕ, true, List, length, take, Option, Some, None, arith}
 use Rattle.std.specs.Prelude.{IfSome, is_some, option_map, slice_get}
 use Rattle.std.specs.List.{Contains}
-use Rattle.std.proofs.lemmas.Option.{IfSome_then, get_or_from_slice_get, slice_get_within}
+use Rattle.std.proofs.lemmas.Option.{IfSome_then}
 use Rattle.log_seams.specs.Disk.{IsLawful}
 use Rattle.log_seams.specs.Outside.{Rose}
 use Rattle.log_seams.specs.declared.disk.Disk.{Ghosts as DiskGhosts}
@@ -20,7 +20,7 @@ use Rattle.ingest_workers.specs.InTurn.{AreFullInTurn, IsMetBy}
 use Rattle.ingest_workers.specs.Ingested.{IsFullByGiven as IsFullByJobs, IsThereOrGiven as IsThereOrGivenByJobs, IsLeftBy, WereGiven as WereGivenByJobs, grounds_over, plan_of, told_entries}
 use Rattle.ingest_workers.specs.JobDone.{in_source}
 use Rattle.ingest_workers.specs.Met.{WasMet}
-use Rattle.ingest_workers.specs.Outcome.{met_by, unsealed_by}
+use Rattle.ingest_workers.specs.Outcome.{met_by}
 use Rattle.ingest_workers.specs.declared.job.Job.{Job}
 use Rattle.ingest_workers.specs.declared.outcome.Cause.{Cause}
 use Rattle.ingest_workers.proofs.FullLemmas.{full_by_wider}
@@ -29,13 +29,13 @@ use Rattle.message_reader.specs.Taken.{IsBeforeLong, IsReadShort}
 use Rattle.name_records.proofs.LeftLemmas.{of_told}
 use Rattle.command_refusals.specs.Ending.{RoseIn}
 use Rattle.command_refusals.specs.LogLimits.{most_messages}
-use Rattle.command_refusals.specs.declared.outcome.PartCause.{PartCause}
 use Rattle.command_refusals.specs.declared.outcome.UpgradeRefusal.{UpgradeRefusal}
 use Rattle.command_answers.specs.Ingested.{FileOutcome, HasEnded, HasMoreThan, IsFullInTurn, IsStoppedBy, IsThereOrGiven, OfStopped, WasMetInOneOf, unsealed_of}
 use Rattle.command_answers.specs.Upgrading.{HasLimitCause, texts_read}
 use Rattle.write_commands.specs.Jobs.{of_cause}
 use Rattle.write_commands.proofs.ContentLemmas.{AreJobsOf as HaveJobs, given_of_names}
 use Rattle.write_commands.proofs.FitLemmas.{fit_of_job}
+use Rattle.write_commands.proofs.InTurnLemmas.{among_first, first_at, full_cause, text_wider, unsealed_same}
 use Rattle.upgrade_command.specs.Files.{came_by, outcome_by, text_left}
 use Rattle.upgrade_command.proofs.CameLemmas.{came_at, there_at}
 
@@ -104,47 +104,6 @@ module _ {D E : Type 0} {e : DiskGhosts E} (mid after : Journal E e) (told : is_
         (fit_of_job text_left (texts_read stop) mid after came rows 0 js of law store left_by place job at c named log.bytes bytes (EndsLog (full log.bytes) log mid.header.version) (λ some taken ends. has_ended log bytes up taken ends) sealed count end need has).1
 
 -- ---- with one worker
-
--- what stands among the first so many stands at the same place of all
-first_at : {A : Type 0} (xs : List A) (n i : ℕ) (x : A) → slice_get (take n xs) i ≡ Some x → (i < n) × (slice_get xs i ≡ Some x)
-first_at xs zero i x at = absurd (cc (at))
-first_at [] (suc n) i x at = absurd (cc (at))
-first_at (y ∷ xs) (suc n) zero x at = (omega arith, at)
-first_at (y ∷ xs) (suc n) (suc i) x at = let rest = first_at xs n i x at in (omega (arith, rest.0), rest.1)
-
-at_first : {A : Type 0} (xs : List A) (n i : ℕ) (x : A) → i < n → slice_get xs i ≡ Some x → slice_get (take n xs) i ≡ Some x
-at_first xs zero i x low at = absurd (omega (arith, low))
-at_first [] (suc n) i x low at = at
-at_first (y ∷ xs) (suc n) zero x low at = at
-at_first (y ∷ xs) (suc n) (suc i) x low at = at_first xs n i x (omega (arith, low)) at
-
-among_first : {A : Type 0} (xs : List A) (n i : ℕ) (x : A) → i < n → slice_get xs i ≡ Some x → Contains (take n xs) x
-among_first xs n i x low at = let here = at_first xs n i x low at in (i, slice_get_within (take n xs) i x here, get_or_from_slice_get (take n xs) i x x here)
-
-text_wider : (version : ℕ) (P Q : List ℕ → Type 0) → ((m : List ℕ) → P m → Q m) → (book : Which) (t : List ℕ) → IsTextOf version P book t → IsTextOf version Q book t
-text_wider version P Q on WhichTypes t is = (is.0, on is.0 is.1, is.2)
-text_wider version P Q on WhichWords t is = (is.0, on is.0 is.1, is.2)
-
--- as many messages may have been met by the one as by the other
-unsealed_same : (rows : ℕ) (cause : Option Cause) → unsealed_of rows (option_map of_cause cause) ≡ unsealed_by rows cause
-unsealed_same rows None = refl
-unsealed_same rows (Some Cause.ReadFault) = refl
-unsealed_same rows (Some (Cause.LineTooLong line)) = refl
-unsealed_same rows (Some Cause.TooManyLines) = refl
-unsealed_same rows (Some (Cause.Full book count)) = refl
-unsealed_same rows (Some (Cause.DiskFault opened now)) = refl
-unsealed_same rows (Some Cause.OutOfMemory) = refl
-unsealed_same rows (Some (Cause.ArchiveFull end need)) = refl
-
-full_cause : (cause : Option Cause) (book : Which) (count : ℕ) → option_map of_cause cause ≡ Some (PartCause.Full book count) → cause ≡ Some (Cause.Full book count)
-full_cause None book count is = absurd (cc (is))
-full_cause (Some Cause.ReadFault) book count is = absurd (cc (is))
-full_cause (Some (Cause.LineTooLong line)) book count is = absurd (cc (is))
-full_cause (Some Cause.TooManyLines) book count is = absurd (cc (is))
-full_cause (Some (Cause.Full b n)) book count is = cc (is)
-full_cause (Some (Cause.DiskFault opened now)) book count is = absurd (cc (is))
-full_cause (Some Cause.OutOfMemory) book count is = absurd (cc (is))
-full_cause (Some (Cause.ArchiveFull end need)) book count is = absurd (cc (is))
 
 module _ {D E : Type 0} {e : DiskGhosts E} (mid : Journal E e) (told : is_some (state_of mid).disk.seen ≡ true) (rows : ℕ) (files : List FileEntry) (js js' : List (Job (StoredState D)))
     (there : (i : ℕ) (j : Job (StoredState D)) → slice_get js i ≡ Some j → (f : FileEntry) × (slice_get files i ≡ Some f)) where

@@ -60,7 +60,7 @@ rest_of_whole file n false ended rest = refl
 abbrev no_part : Part
 no_part = record { rows = []; messages = [] }
 
-no_parts : (rows file : ℕ) (ended : Bool) → 0 < rows → HasParts rows file [] [] false ended
+pub no_parts : (rows file : ℕ) (ended : Bool) → 0 < rows → HasParts rows file [] [] false ended
 no_parts rows file ended some = record {
   closed = [];
   rest = no_part;
@@ -87,7 +87,7 @@ pub record IsTold (version rows : ℕ) (fresh : List JournalEntry) (ps : List Pi
   pub first : IfSome c.log (λ bytes. (messages : List (List ℕ)) (e : Bool) → MessagesOf version bytes messages e → IsPrefix covered messages)
   pub all : c.refusal ≡ None → (c.whole ≡ true) × IfSome c.log (λ bytes. MessagesOf version bytes covered ended)
 
-abbrev file_in : FileOutcome → ℕ → List Piece → File
+abbrev pub file_in : FileOutcome → ℕ → List Piece → File
 file_in c file ps = record { name = c.name; messages = messages_of file ps; whole = is_whole file ps; ended = is_ended file ps }
 
 front_of_told : (version : ℕ) {rows : ℕ} {fresh : List JournalEntry} (ps : List Piece) (file : ℕ) (c : FileOutcome) → IsTold version rows fresh ps file c → IsFront version c (file_in c file ps)
@@ -115,7 +115,7 @@ fronts_are version {rows} {fresh} ps k names came are each = subst (λ l. AllZip
     )
 
 -- the file at a place has the messages of its pieces
-file_is : (ps : List Piece) (k : ℕ) (names : List (List ℕ)) (i : ℕ) (f : File) → slice_get (files_from k names ps) i ≡ Some f → (f.messages ≡ messages_of (k + i) ps) × (f.whole ≡ is_whole (k + i) ps) × (f.ended ≡ is_ended (k + i) ps)
+pub file_is : (ps : List Piece) (k : ℕ) (names : List (List ℕ)) (i : ℕ) (f : File) → slice_get (files_from k names ps) i ≡ Some f → (f.messages ≡ messages_of (k + i) ps) × (f.whole ≡ is_whole (k + i) ps) × (f.ended ≡ is_ended (k + i) ps)
 file_is ps k [] i f at = absurd (cc (at))
 file_is ps k (name ∷ names) zero f at =
     let here : k ≡ k + 0 = omega arith in
@@ -130,23 +130,23 @@ file_is ps k (name ∷ names) (suc i) f at =
     (rest.0 ∙ ap (λ n. messages_of n ps) here, rest.1 ∙ ap (λ n. is_whole n ps) here, rest.2 ∙ ap (λ n. is_ended n ps) here)
 
 -- and is cut into the parts that are told of it
-cut_of_told : (version rows : ℕ) (fresh : List JournalEntry) (ps : List Piece) (file : ℕ) (c : FileOutcome) (f : File) → IsTold version rows fresh ps file c
+pub cut_of_parts : (rows : ℕ) (fresh : List JournalEntry) (ps : List Piece) (file : ℕ) (f : File) (covered : List (List ℕ)) (whole ended : Bool) → HoldsOf file ps covered whole (whole && ended) → HasParts rows file fresh covered whole ended
     → (f.messages ≡ messages_of file ps) × (f.whole ≡ is_whole file ps) × (f.ended ≡ is_ended file ps) → IsCutInto rows file f fresh
-cut_of_told version rows fresh ps file c f told is = record {
-  closed = told.cut.closed;
-  rest = told.cut.rest;
-  parts = is.0 ∙ (told.holds.messages ∙ told.cut.parts);
-  cut = told.cut.cut;
-  not_yet = told.cut.not_yet;
-  segments = told.cut.segments ∙ ap (λ l. segments_from file 0 told.cut.closed ++ l) (rest_of_whole file n c.whole told.ended told.cut.rest
-      ∙ ap₂ (λ w e. rest_of file n w e told.cut.rest) (sym (is.1 ∙ told.holds.whole_is)) (sym (is.2 ∙ told.holds.ended_is)));
+cut_of_parts rows fresh ps file f covered whole ended holds cut is = record {
+  closed = cut.closed;
+  rest = cut.rest;
+  parts = is.0 ∙ (holds.messages ∙ cut.parts);
+  cut = cut.cut;
+  not_yet = cut.not_yet;
+  segments = cut.segments ∙ ap (λ l. segments_from file 0 cut.closed ++ l) (rest_of_whole file n whole ended cut.rest
+      ∙ ap₂ (λ w e. rest_of file n w e cut.rest) (sym (is.1 ∙ holds.whole_is)) (sym (is.2 ∙ holds.ended_is)));
 }
   where
     n : ℕ
-    n = length (messages_in told.cut.closed)
+    n = length (messages_in cut.closed)
 
 -- the names have a file at each place
-named_files : {A B : Type 0} (R : A → B → Type 0) (xs : List A) (ys : List B) (i : ℕ) (y : B) → AllZip R xs ys → slice_get ys i ≡ Some y → (x : A) × (slice_get xs i ≡ Some x)
+pub named_files : {A B : Type 0} (R : A → B → Type 0) (xs : List A) (ys : List B) (i : ℕ) (y : B) → AllZip R xs ys → slice_get ys i ≡ Some y → (x : A) × (slice_get xs i ≡ Some x)
 named_files R [] [] i y zip at = absurd (cc (at))
 named_files R [] (z ∷ ys) i y zip at = absurd zip
 named_files R (x ∷ xs) [] i y zip at = absurd (cc (at))
@@ -251,7 +251,8 @@ module _ (h : Header) (before : List JournalEntry) (names : List (List ℕ)) {by
       fronts = fronts;
       cuts = λ i f at.
           let c = named_files (IsFront h.version) came (files_from first names legal.held.pieces) i f fronts at in
-          cut_of_told h.version rows fresh legal.held.pieces (first + i) c.0 f (each i c.0 c.1) (file_is legal.held.pieces first names i f at);
+          let told = each i c.0 c.1 in
+          cut_of_parts rows fresh legal.held.pieces (first + i) f told.covered c.0.whole told.ended told.holds told.cut (file_is legal.held.pieces first names i f at);
     },
     refl,
   )

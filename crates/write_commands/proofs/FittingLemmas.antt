@@ -37,11 +37,10 @@ use Rattle.archive_meaning.proofs.SumsLemmas.{messages_joined}
 use Rattle.archive_meaning.proofs.UniqueLemmas.{legal_front}
 use Rattle.ingest_meaning.specs.WordsIn.{words_of}
 use Rattle.disk_seal.proofs.NextLemmas.{run_words}
-use Rattle.ingest_meaning.specs.Dictionaries.{limit_of}
-use Rattle.ingest_meaning.specs.Dictionaries.{IsTextOf}
-use Rattle.ingest_meaning.specs.Dictionaries.{book_texts, header_limits}
+use Rattle.ingest_meaning.specs.Dictionaries.{IsTextOf, book_texts, header_limits, limit_of}
 use Rattle.ingest_workers.proofs.ClosingLemmas.{types_joined, words_joined}
 use Rattle.ingest_workers.proofs.JournalLemmas.{all_canonical}
+use Rattle.ingest_workers.specs.Ingested.{OfMessages}
 use Rattle.command_answers.specs.Ingested.{AllFit, FileOutcome, FitIn, FromArchive, IsFront, IsThereOrTakenIn, StandsForEither, TakesIn, WasTakenIn}
 use Rattle.write_commands.proofs.JoinLemmas.{types_held, words_held}
 
@@ -76,7 +75,7 @@ contained : {A : Type 0} (xs : List A) (i : ℕ) (x : A) → slice_get xs i ≡ 
 contained xs i x at = (i, slice_get_within xs i x at, get_or_from_slice_get xs i x x at)
 
 -- some row by these texts is the encoding of the message
-abbrev IsEncodedBy : ℕ → Held → List ℕ → Type 0
+abbrev pub IsEncodedBy : ℕ → Held → List ℕ → Type 0
 IsEncodedBy version held m = (row : Row) × IsCanonical version row held.types held.words m
 
 words_known : (words : Texts) (parts : List Part) (row : List ℕ) → EachWord (HasWord words) parts row → All (Contains words) (word_texts parts)
@@ -153,10 +152,10 @@ module _ (h : Header) where
 
 module _ (h : Header) (es : List JournalEntry) (legal : IsLegal h es) where
   -- each message of the file is encoded by the texts that are held
-  abbrev IsEncodedFile : File → Type 0
+  abbrev pub IsEncodedFile : File → Type 0
   IsEncodedFile f = All (IsEncodedBy h.version legal.held) f.messages
 
-  encoded_from : (k : ℕ) (names : Texts) → All IsEncodedFile (files_from k names legal.held.pieces)
+  pub encoded_from : (k : ℕ) (names : Texts) → All IsEncodedFile (files_from k names legal.held.pieces)
   encoded_from k [] = All-nil IsEncodedFile
   encoded_from k (name ∷ names) =
       All-cons IsEncodedFile _ (files_from (k + 1) names legal.held.pieces) (encoded_run h k legal.held nothing_held es legal.run (All-nil (IsEncodedBy h.version legal.held))) (encoded_from (k + 1) names)
@@ -188,37 +187,54 @@ beside {A} {B} R xs ys i x both at = let y = go xs ys i both at in (y.0, contain
     go (a ∷ xs) (y ∷ ys) zero both at = (y, refl, subst (λ z. R z y) (cc (at)) both.0)
     go (a ∷ xs) (y ∷ ys) (suc i) both at = go xs ys i both.1 at
 
--- where the bytes are told, the file has their first messages
-first_messages : (version : ℕ) (c : FileOutcome) (f : File) (bytes : List ℕ) (messages : Texts) (ended : Bool) → IsFront version c f → c.log ≡ Some bytes → MessagesOf version bytes messages ended
-    → take c.messages messages ≡ f.messages
-first_messages version c f bytes messages ended front told are =
-    let begins : IsPrefix f.messages messages =
-    subst (λ (o : Option (List ℕ)). IfSome o (λ b. (ms : Texts) (e : Bool) → MessagesOf version b ms e → IsPrefix f.messages ms)) told front.front messages ended are in
-    ap₂ (λ n (ms : Texts). take n ms) (sym front.messages) (sym begins.1) ∙ take-append_seam f.messages begins.0
+-- the file has the first messages of its log, as many as it is told with
+pub record HasFirst (version : ℕ) (c : FileOutcome) (f : File) : Type 0 where
+  pub messages : length f.messages ≡ c.messages
+  pub front : OfMessages version c.log (λ messages ended. IsPrefix f.messages messages)
 
-module _ (rows : ℕ) (one : OneListOfParts) (h : Header) (before : List JournalEntry) {bytes : List ℕ} (stood : StandsFor bytes h before) (names : Texts) (came : List FileOutcome) (old new : DiskState)
+first_messages : (version : ℕ) (c : FileOutcome) (f : File) (bytes : List ℕ) (messages : Texts) (ended : Bool) → HasFirst version c f → c.log ≡ Some bytes → MessagesOf version bytes messages ended
+    → take c.messages messages ≡ f.messages
+first_messages version c f bytes messages ended has told are =
+    let begins : IsPrefix f.messages messages =
+    subst (λ (o : Option (List ℕ)). OfMessages version o (λ ms e. IsPrefix f.messages ms)) told has.front messages ended are in
+    ap₂ (λ n (ms : Texts). take n ms) (sym has.messages) (sym begins.1) ∙ take-append_seam f.messages begins.0
+
+-- where each of the files has the first messages of its log, and they are encoded by the texts that are held, what was taken in is
+pub taken_encoded : (R : FileOutcome → File → Type 0) (version : ℕ) (held : Held) (came : List FileOutcome) (files : List File) → AllZip R came files
+    → ((c : FileOutcome) (f : File) → R c f → HasFirst version c f) → ((f : File) → Contains files f → All (IsEncodedBy version held) f.messages)
+    → (m : List ℕ) → WasTakenIn version came m → IsEncodedBy version held m
+taken_encoded R version held came files zip first_of encoded m (c, there, was) =
+    let f = beside R came files there.0 c zip (slice_get-get_or came there.0 c there.1 ∙ ap (λ (x : FileOutcome). Some x) there.2) in
+    let first = first_messages version c f.0 was.bytes was.messages was.ended (first_of c f.0 f.2) was.told was.are in
+    All-contains (IsEncodedBy version held) f.0.messages m (encoded f.0 f.1) (subst (λ (ms : Texts). Contains ms m) first was.first)
+
+module _ (one : OneListOfParts) (h : Header) (before more : List JournalEntry) (legal : IsLegal h (before ++ more)) (came : List FileOutcome)
+    (encoded : (m : List ℕ) → WasTakenIn h.version came m → IsEncodedBy h.version legal.held m) where
+  taken_known : (book : Which) (text : List ℕ) → IsTextOf h.version (WasTakenIn h.version came) book text → Contains (book_texts book (before ++ more)) text
+  taken_known WhichTypes text (m, taken, is) = subst (λ (l : Texts). Contains l text) (types_held h (before ++ more) legal) (type_known one h.version legal.held m text (encoded m taken) is)
+  taken_known WhichWords text (m, taken, is) = subst (λ (l : Texts). Contains l text) (words_held h (before ++ more) legal) (word_known one h.version legal.held m text (encoded m taken) is)
+
+  pub fit_in : (book : Which) → FitIn h before came book
+  fit_in book texts distinct each =
+      let known = All-weaker (IsThereOrTakenIn h before came book) (Contains (book_texts book (before ++ more))) (λ text is. ⊎_elim (texts_stay before more book text) (taken_known book text) is) texts each in
+      omega (arith, no_more_than (book_texts book (before ++ more)) texts distinct known, limits_kept h (before ++ more) legal book)
+
+-- ---- what an ingest took in
+
+module _ (h : Header) (before : List JournalEntry) {bytes : List ℕ} (stood : StandsFor bytes h before) (rows : ℕ) (names : Texts) (came : List FileOutcome) (old new : DiskState)
     (takes : TakesIn rows h before stood names came old new) (header : IsHeader h) (legal : IsLegal h (before ++ (Files names ∷ takes.added))) where
   abbrev es : List JournalEntry
   es = before ++ (Files names ∷ takes.added)
 
-  -- what was taken in is encoded by the texts that are held
-  taken_encoded : (m : List ℕ) → WasTakenIn h.version came m → IsEncodedBy h.version legal.held m
+  file_encoded : (f : File) → Contains takes.files f → All (IsEncodedBy h.version legal.held) f.messages
   unfolding bytes_stand
-  taken_encoded m (c, there, was) =
-      let f = beside (IsFront h.version) came takes.files there.0 c takes.fronts (slice_get-get_or came there.0 c there.1 ∙ ap (λ (x : FileOutcome). Some x) there.2) in
-      let in_content : Contains (content_of legal.held) f.0 = subst (λ (fs : List File). Contains fs f.0) (sym (takes.content_is (front_of h es ++ CLOSED_GATE ∷ []) (bytes_stand h es legal header)))
-      (Contains-append_right (content_of stood.legal.held) takes.files f.0 f.1) in
-      let first = first_messages h.version c f.0 was.bytes was.messages was.ended f.2 was.told was.are in
-      All-contains (IsEncodedBy h.version legal.held) f.0.messages m (All-contains (IsEncodedFile h es legal) (content_of legal.held) f.0 (files_encoded h es legal) in_content) (subst (λ (ms : Texts). Contains ms m) first was.first)
+  file_encoded f there =
+      let in_content : Contains (content_of legal.held) f = subst (λ (fs : List File). Contains fs f) (sym (takes.content_is (front_of h es ++ CLOSED_GATE ∷ []) (bytes_stand h es legal header)))
+      (Contains-append_right (content_of stood.legal.held) takes.files f there) in
+      All-contains (IsEncodedFile h es legal) (content_of legal.held) f (files_encoded h es legal) in_content
 
-  taken_known : (book : Which) (text : List ℕ) → IsTextOf h.version (WasTakenIn h.version came) book text → Contains (book_texts book es) text
-  taken_known WhichTypes text (m, taken, is) = subst (λ (l : Texts). Contains l text) (types_held h es legal) (type_known one h.version legal.held m text (taken_encoded m taken) is)
-  taken_known WhichWords text (m, taken, is) = subst (λ (l : Texts). Contains l text) (words_held h es legal) (word_known one h.version legal.held m text (taken_encoded m taken) is)
-
-  fit_in : (book : Which) → FitIn h before came book
-  fit_in book texts distinct each =
-      let known = All-weaker (IsThereOrTakenIn h before came book) (Contains (book_texts book es)) (λ text is. ⊎_elim (texts_stay before (Files names ∷ takes.added) book text) (taken_known book text) is) texts each in
-      omega (arith, no_more_than (book_texts book es) texts distinct known, limits_kept h es legal book)
+  ingest_encoded : (m : List ℕ) → WasTakenIn h.version came m → IsEncodedBy h.version legal.held m
+  ingest_encoded = taken_encoded (IsFront h.version) h.version legal.held came takes.files takes.fronts (λ c f is. record { messages = is.messages; front = is.front }) file_encoded
 
 -- ---- where the disk's bytes are told
 
@@ -238,4 +254,4 @@ all_fit rows one names came old new tells from = go old.seen tells from
     go (Some bytes) tells from = λ h before stood only book.
         let takes = from h before stood only in
         let is = legal_told h (before ++ (Files names ∷ takes.added)) takes.leaves.tail new.seen tells takes.leaves.reads in
-        fit_in rows one h before stood names came old new takes is.0 is.1 book
+        fit_in one h before (Files names ∷ takes.added) is.1 came (ingest_encoded h before stood rows names came old new takes is.0 is.1) book

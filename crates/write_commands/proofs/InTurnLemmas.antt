@@ -40,7 +40,7 @@ use Rattle.write_commands.proofs.TakeInLemmas.{CameBy, CameOfLog}
 -- ---- the first elements of a list
 
 -- what stands among the first so many stands at the same place of all
-first_at : {A : Type 0} (xs : List A) (n i : ℕ) (x : A) → slice_get (take n xs) i ≡ Some x → (i < n) × (slice_get xs i ≡ Some x)
+pub first_at : {A : Type 0} (xs : List A) (n i : ℕ) (x : A) → slice_get (take n xs) i ≡ Some x → (i < n) × (slice_get xs i ≡ Some x)
 first_at xs zero i x at = absurd (cc (at))
 first_at [] (suc n) i x at = absurd (cc (at))
 first_at (y ∷ xs) (suc n) zero x at = (omega arith, at)
@@ -52,7 +52,7 @@ at_first [] (suc n) i x low at = at
 at_first (y ∷ xs) (suc n) zero x low at = at
 at_first (y ∷ xs) (suc n) (suc i) x low at = at_first xs n i x (omega (arith, low)) at
 
-among_first : {A : Type 0} (xs : List A) (n i : ℕ) (x : A) → i < n → slice_get xs i ≡ Some x → Contains (take n xs) x
+pub among_first : {A : Type 0} (xs : List A) (n i : ℕ) (x : A) → i < n → slice_get xs i ≡ Some x → Contains (take n xs) x
 among_first xs n i x low at = let here = at_first xs n i x low at in (i, slice_get_within (take n xs) i x here, get_or_from_slice_get (take n xs) i x x here)
 
 -- a log without bytes has no message
@@ -63,14 +63,14 @@ none_first (suc n) m among = omega (arith, among.1)
 none_met : (version n : ℕ) (m : List ℕ) → IsAmongFirst version (Some []) n m → ⊥
 none_met version n m met = none_first n m (met [] true (messages_none version))
 
-text_wider : (version : ℕ) (P Q : List ℕ → Type 0) → ((m : List ℕ) → P m → Q m) → (book : Which) (t : List ℕ) → IsTextOf version P book t → IsTextOf version Q book t
+pub text_wider : (version : ℕ) (P Q : List ℕ → Type 0) → ((m : List ℕ) → P m → Q m) → (book : Which) (t : List ℕ) → IsTextOf version P book t → IsTextOf version Q book t
 text_wider version P Q on WhichTypes t is = (is.0, on is.0 is.1, is.2)
 text_wider version P Q on WhichWords t is = (is.0, on is.0 is.1, is.2)
 
 -- ---- causes of jobs, and refusals of files
 
 -- as many messages may have been met by the one as by the other
-unsealed_same : (rows : ℕ) (cause : Option Cause) → unsealed_of rows (option_map of_cause cause) ≡ unsealed_by rows cause
+pub unsealed_same : (rows : ℕ) (cause : Option Cause) → unsealed_of rows (option_map of_cause cause) ≡ unsealed_by rows cause
 unsealed_same rows None = refl
 unsealed_same rows (Some Cause.ReadFault) = refl
 unsealed_same rows (Some (Cause.LineTooLong line)) = refl
@@ -80,7 +80,7 @@ unsealed_same rows (Some (Cause.DiskFault opened now)) = refl
 unsealed_same rows (Some Cause.OutOfMemory) = refl
 unsealed_same rows (Some (Cause.ArchiveFull end need)) = refl
 
-full_cause : (cause : Option Cause) (book : Which) (count : ℕ) → option_map of_cause cause ≡ Some (PartCause.Full book count) → cause ≡ Some (Cause.Full book count)
+pub full_cause : (cause : Option Cause) (book : Which) (count : ℕ) → option_map of_cause cause ≡ Some (PartCause.Full book count) → cause ≡ Some (Cause.Full book count)
 full_cause None book count is = absurd (cc (is))
 full_cause (Some Cause.ReadFault) book count is = absurd (cc (is))
 full_cause (Some (Cause.LineTooLong line)) book count is = absurd (cc (is))
