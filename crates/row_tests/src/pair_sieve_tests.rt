@@ -24,7 +24,8 @@ const MESSAGES: &[&[u8]] = &[
 
 // A pattern, how many of the messages are passed over, and the lines that are printed: a pair over the
 // two sides of a word, within a word, within constants, behind a `\` and before one; with bytes of
-// stamps and of numbers; and patterns that have none, or none that serves.
+// stamps and of numbers; behind others that do not serve, or are common, as the last two bytes too; and
+// patterns that have none, or none that serves.
 const ROWS: &[(&[u8], u32, &[u8])] = &[
     (b"=j", 7, b"f:1:k=job done;\n"),
     (b"b;", 6, b"f:2:job k=ab;\n"),
@@ -42,6 +43,9 @@ const ROWS: &[(&[u8], u32, &[u8])] = &[
     (b"()", 8, b""),
     (b"(?)", 0, b"f:7:(5)\n"),
     (b"e-1.5e", 0, b"f:8:e-1.5e\n"),
+    (b"3*ub", 7, b"f:4:2023-11-14 22:13:20 Tub\n"),
+    (b"ob*=a", 7, b"f:2:job k=ab;\n"),
+    (b"1? s", 0, b"f:5:took 12 s\n"),
     (b"jz", 8, b""),
 ];
 
@@ -73,15 +77,39 @@ fn add_messages(
     Ok(())
 }
 
-// How many rows are passed over.
-fn passed(sieve: &PairSieve, rows: &Columns) -> u32 {
+// Whether a row is passed over where there are no texts.
+fn is_passed(
+    alloc: Global,
+    none: &Books,
+    row: RowRef<'_>,
+    pattern: &Pattern,
+    sieve: &PairSieve,
+) -> Result<bool, Fail> {
+    let mut arrays = Arrays::new(alloc);
+    add_row(&mut arrays, row)?;
+    let Some(rows) = Columns::from_arrays(arrays) else {
+        return Ok(false);
+    };
+    let mut out = MemSink::new(alloc, 1000, Vec::new(alloc))?;
+    Ok(print_segment(alloc, none, b"f", 1, &rows, pattern, sieve, &mut out)?)
+}
+
+// How many rows are passed over, by what prints them: without a text a row that is not passed over cannot
+// be written.
+fn passed(
+    alloc: Global,
+    none: &Books,
+    rows: &Columns,
+    pattern: &Pattern,
+    sieve: &PairSieve,
+) -> Result<u32, Fail> {
     let mut count = 0;
     for place in 0..rows.rows() {
-        if !sieve.may_match(rows.row(place)) {
+        if is_passed(alloc, none, rows.row(place), pattern, sieve)? {
             count += 1;
         }
     }
-    count
+    Ok(count)
 }
 
 // Whether these lines are printed.
@@ -114,10 +142,9 @@ fn holds(
     let Some(rows) = Columns::from_arrays(arrays) else {
         return Ok(false);
     };
-    Ok(
-        passed(&sieve, &rows) == over
-            && are_printed(alloc, &*books, &rows, &pattern, &sieve, lines)?,
-    )
+    let none = Books::new(alloc, 1, 100);
+    Ok(passed(alloc, &none, &rows, &pattern, &sieve)? == over
+        && are_printed(alloc, &*books, &rows, &pattern, &sieve, lines)?)
 }
 
 fn holds_over_new(alloc: Global, text: &[u8], over: u32, lines: &[u8]) -> Result<bool, Fail> {

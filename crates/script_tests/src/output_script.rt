@@ -62,6 +62,21 @@ disk $worked
 call check
 is 0 "entries 3 files 1 messages 1\n"
 
+disk $worked
+write 0
+call count --by type a
+is 7 "" $output_failed
+disk $worked
+call count --by type a
+is 0 "1 a\n"
+disk $worked
+write 0
+call count --by minute --stats a
+is 7 "" $output_failed
+disk $worked
+call count --by minute --stats a
+is 0 "none 1\nmatched 1 expanded 0 opened 1 segments 1\n"
+
 # ---- an error output that fails changes nothing else
 log a.log "x\ny\nz\n"
 row
@@ -139,6 +154,21 @@ each k 0 19
 end
 is 0 $numbered
 least 3 k
+
+# ---- a decode whose first write fails reads the first of nine segments alone: told by the calls of the
+# disk
+row
+disk $empty
+call ingest --segment=1 l.log
+count a
+call decode 0
+is 0 $long
+count b
+write 0
+call decode 0
+is 7 "" $output_failed
+count c
+least c-b+16 b-a
 
 # ---- a page of few rows is searched before the next one is read, by any number of workers: told by
 # the calls of the disk
