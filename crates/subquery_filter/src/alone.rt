@@ -36,7 +36,8 @@ fn is_within_token(text: &[u8]) -> bool {
     !text.iter().any(|byte| is_delim(*byte))
 }
 
-/// Appends the run with this text, where one ends before a place. Of runs with one text the first is kept.
+/// Appends the run with this text, where one ends before a place. Of runs with one text the first
+/// is kept.
 fn push_run(
     alloc: Global,
     runs: &mut Vec<Run>,
@@ -74,8 +75,8 @@ pub(crate) fn runs_of(alloc: Global, pieces: &[Piece]) -> Result<Vec<Run>, Alloc
     Ok(runs)
 }
 
-/// Whether a body of the log type may begin with what comes behind so many bytes of a run, a delimiter
-/// first.
+/// Whether a body of the log type may begin with what comes behind so many bytes of a run, a
+/// delimiter first.
 fn may_go_at(run: &[u8], log_type: &[u8], len: usize) -> bool
     requires { len < length run.now }
     ensures { IsFalse result → ¬ GoesOnAt run.now log_type.now len }
@@ -123,8 +124,8 @@ fn alone_bit(run: &Run, log_type: &[u8]) -> u8
     run.bit
 }
 
-/// The bits of the runs that may neither stand in a body of the log type nor go on there: only stamps may
-/// bring them.
+/// The bits of the runs that may neither stand in a body of the log type nor go on there: only
+/// stamps may bring them.
 pub(crate) fn alone_of(runs: &[Run], log_type: &[u8]) -> u8
     ensures { IsAlone runs.now log_type.now result }
 {

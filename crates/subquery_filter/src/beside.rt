@@ -50,8 +50,8 @@ pub(crate) fn pass_piece(front: &mut Vec<u8>, piece: &Piece) -> Result<(), Alloc
     Ok(())
 }
 
-/// The text of the pieces around the token at a place, up to the gaps on both sides. That of the pieces
-/// before it is given.
+/// The text of the pieces around the token at a place, up to the gaps on both sides. That of the
+/// pieces before it is given.
 fn run_text(
     alloc: Global,
     pieces: &[Piece],
@@ -81,8 +81,8 @@ fn closed_text(alloc: Global, variable: ClosedVariable, token: &[u8]) -> Result<
     Ok(Text::new(text))
 }
 
-/// The text that stands around the token at a place: of a closed variable that with its delimiters, and
-/// of another token that of the pieces up to the gaps on both sides.
+/// The text that stands around the token at a place: of a closed variable that with its delimiters,
+/// and of another token that of the pieces up to the gaps on both sides.
 pub(crate) fn text_around(
     alloc: Global,
     pieces: &[Piece],

@@ -70,12 +70,12 @@ pub struct Filter {
     /// The bits that stamps may bring, by the numbers of their patterns, and those of all patterns.
     stamps: Vec<u8>,
     stamped: u8,
-    /// The runs of the pattern, each with a bit too, and those that each log type leaves to stamps, by their
-    /// numbers.
+    /// The runs of the pattern, each with a bit too, and those that each log type leaves to stamps,
+    /// by their numbers.
     runs: Vec<Run>,
     alone: Vec<u8>,
-    /// The bits of the runs that stamps may have, by the numbers of their patterns, and those of all
-    /// patterns.
+    /// The bits of the runs that stamps may have, by the numbers of their patterns, and those of
+    /// all patterns.
     run_stamps: Vec<u8>,
     run_stamped: u8,
 }
@@ -91,8 +91,8 @@ fn bits_of_list(marks: &WordMarks, numbers: &[u32]) -> u8
     bits
 }
 
-/// The longest run of literal bytes of the pattern that a search is planned over, as log types store
-/// constant bytes.
+/// The longest run of literal bytes of the pattern that a search is planned over, as log types
+/// store constant bytes.
 fn longest_run(alloc: Global, plan: &Plan) -> Result<Text, AllocError> {
     let matcher = Matcher::new(alloc, plan.wide())?;
     let run = stored_text(alloc, matcher.needle())?;
@@ -152,8 +152,8 @@ impl Filter {
         mark_at(self.alone.as_slice(), number)
     }
 
-    /// The verdict on all rows of a log type. It is given up where its rows cannot bring all runs, whatever
-    /// their stamps are, or all tokens, whatever their words are.
+    /// The verdict on all rows of a log type. It is given up where its rows cannot bring all runs,
+    /// whatever their stamps are, or all tokens, whatever their words are.
     fn type_verdict(&self, number: usize, test: &TypeTest) -> Verdict
         ensures { IsTold self.now number test.now result }
     {
@@ -197,16 +197,17 @@ impl Filter {
         Ok(Filter { verdicts, ..self })
     }
 
-    /// The texts that have to be looked for in words. There are none where the pattern has no token.
+    /// The texts that have to be looked for in words. There are none where the pattern has no
+    /// token.
     pub fn needles(&self) -> &[Text]
         ensures { result.now ≡ self.now.needles.items }
     {
         self.needles.as_slice()
     }
 
-    /// Marks the words: for each needle there is a list of the numbers of the words in which it stands.
-    /// Where there are no needles, no lists are needed. What log types told before is forgotten, since it
-    /// was told by other words.
+    /// Marks the words: for each needle there is a list of the numbers of the words in which it
+    /// stands. Where there are no needles, no lists are needed. What log types told before is
+    /// forgotten, since it was told by other words.
     ///
     /// Takes memory for the marks: some bytes for each number, and at most one for each word.
     pub fn mark(self, alloc: Global, lists: &[NumberList]) -> Result<Filter, AllocError>
@@ -236,8 +237,8 @@ impl Filter {
         }
     }
 
-    /// Asks all log types of an archive, after its words: a log type is rejected without a look at its
-    /// slots, where its constant bytes do not bring what stamps, numbers and words leave out.
+    /// Asks all log types of an archive, after its words: a log type is rejected without a look at
+    /// its slots, where its constant bytes do not bring what stamps, numbers and words leave out.
     ///
     /// Takes memory for each log type and for each slot that may bring a token.
     pub fn ask<N: Names>(self, alloc: Global, plan: &Plan, names: &N) -> Result<Filter, AllocError>
@@ -400,8 +401,9 @@ impl Filter {
         all
     }
 
-    /// Whether a row of a log type does not bring all tokens, whatever its numbers and its stamp are: so
-    /// neither are looked at where a token stands in no word of it that only words may bring.
+    /// Whether a row of a log type does not bring all tokens, whatever its numbers and its stamp
+    /// are: so neither are looked at where a token stands in no word of it that only words may
+    /// bring.
     #[inline]
     fn lacks_words(&self, test: &TypeTest, row: RowRef<'_>) -> bool
         ensures { IsTrue result → Lacks self.now test.now (row_of row.entry) }
@@ -415,8 +417,8 @@ impl Filter {
         !has(all, self.wanted)
     }
 
-    /// These bits, and those that a row brings by its stamp, which is printed only where its pattern
-    /// may bring all that is missing.
+    /// These bits, and those that a row brings by its stamp, which is printed only where its
+    /// pattern may bring all that is missing.
     #[inline]
     fn with_stamp(&self, row: RowRef<'_>, bits: u8, printer: &mut StampPrinter) -> u8
         ensures more { Has result bits }
@@ -463,8 +465,8 @@ impl Filter {
         self.verdicts.get(number as usize).copied()
     }
 
-    /// Whether a run that the row's log type leaves to stamps does not stand in the row's own, which is
-    /// printed.
+    /// Whether a run that the row's log type leaves to stamps does not stand in the row's own,
+    /// which is printed.
     #[inline]
     fn lacks_own_run(&self, row: RowRef<'_>, page: &mut PageTests) -> bool
         ensures lacks { IsTrue result → LacksStamp self.now (row_of row.entry) }
@@ -485,9 +487,9 @@ impl Filter {
         !has(bits, alone)
     }
 
-    /// Whether a row does not bring all tokens, or a run that its log type leaves to stamps. Where all
-    /// stamps of the page bring the tokens, neither its variables nor its stamp are looked at; and where
-    /// its log type brings them, its variables are not.
+    /// Whether a row does not bring all tokens, or a run that its log type leaves to stamps. Where
+    /// all stamps of the page bring the tokens, neither its variables nor its stamp are looked at;
+    /// and where its log type brings them, its variables are not.
     #[inline]
     fn lacks_tokens(&self, row: RowRef<'_>, page: &mut PageTests) -> bool
         ensures lacks { IsTrue result → LacksStamp self.now (row_of row.entry)
@@ -507,11 +509,12 @@ impl Filter {
         !has(test.has | shared, self.wanted) && self.lacks(&test, row, page)
     }
 
-    /// Whether a run that the row's log type leaves to stamps stands in no stamp of the row's pattern, of the
-    /// moments of the page.
+    /// Whether a run that the row's log type leaves to stamps stands in no stamp of the row's
+    /// pattern, of the moments of the page.
     #[inline]
     fn lacks_runs(&self, row: RowRef<'_>, page: &PageTests) -> bool
-        ensures { IsTrue result → IsPage self.now page.now → LacksStamp self.now (row_of row.entry) }
+        ensures { IsTrue result → IsPage self.now page.now
+            → LacksStamp self.now (row_of row.entry) }
     {
         let own = mark_at(self.run_stamps.as_slice(), u64::from(row.pattern));
         let may = page.may_at(row.pattern, row.moment, own);
@@ -596,7 +599,8 @@ impl Filter {
         }
     }
 
-    /// Whether no row of a log type brings all tokens, where the stamps and the words bring these bits.
+    /// Whether no row of a log type brings all tokens, where the stamps and the words bring these
+    /// bits.
     fn lacks_all(&self, test: &TypeTest, stamped: u8, brought: u8) -> bool
         ensures { IsTrue result → LacksAll self.now test.now stamped brought }
     {
@@ -607,8 +611,8 @@ impl Filter {
         !has(all, self.wanted)
     }
 
-    /// Whether a row of a log type may match, whose stamp has these runs, and whose stamp and words bring
-    /// these bits.
+    /// Whether a row of a log type may match, whose stamp has these runs, and whose stamp and words
+    /// bring these bits.
     fn may_be(&self, number: u32, runs: u8, stamped: u8, brought: u8) -> bool
         ensures { IsFalse result → IsShut self.now runs stamped brought number }
     {
@@ -625,8 +629,8 @@ impl Filter {
         }
     }
 
-    /// Whether a row of one of these log types may match, whose stamp has these runs, and whose stamp and
-    /// words bring these bits.
+    /// Whether a row of one of these log types may match, whose stamp has these runs, and whose
+    /// stamp and words bring these bits.
     fn some_may(&self, types: &[u32], runs: u8, stamped: u8, brought: u8) -> bool
         ensures { IsFalse result → (t : ℕ) → Contains types.now t
             → IsShut self.now runs stamped brought t }
@@ -661,8 +665,8 @@ impl Filter {
         runs_within(self.runs.as_slice(), head)
     }
 
-    /// Whether the pattern may match a message of a segment, by what its head lists and by its least and
-    /// its greatest moment. Takes no memory.
+    /// Whether the pattern may match a message of a segment, by what its head lists and by its
+    /// least and its greatest moment. Takes no memory.
     ///
     /// The words are asked only where no stamp and no number may bring what is missing.
     pub fn may_match(&self, head: &Head) -> bool

@@ -5,7 +5,8 @@ ghost use Rattle.subquery_filter.specs.StepsKnown.{AreLookedUp};
 use crate::known::{KnownWord, known_word};
 use row_codec::Names;
 
-/// The names of an archive, of which some words were looked up before: these are not looked up again.
+/// The names of an archive, of which some words were looked up before: these are not looked up
+/// again.
 #[derive(Drop)]
 pub struct KnownNames<'n, N: Names> {
     names: &'n N,

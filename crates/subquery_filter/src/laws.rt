@@ -37,8 +37,8 @@ pub fn rows_bring_tokens()
     tokens_are_brought();
 }
 
-/// A row whose message a pattern matches brings each token that stands between delimiters of the pattern
-/// and is a variable: in its stamp, or as the whole text of a variable.
+/// A row whose message a pattern matches brings each token that stands between delimiters of the
+/// pattern and is a variable: in its stamp, or as the whole text of a variable.
 pub fn rows_bring_closed()
     ensures { RowsBringClosed }
 {
@@ -46,10 +46,10 @@ pub fn rows_bring_closed()
     readings_are_exact();
 }
 
-/// A row whose message a pattern matches brings each token of the pattern: in its stamp, and there with
-/// what stands around the token in the pattern, among the constant bytes of its log type, or in the text
-/// of one of its variables. One that stands between delimiters of the pattern and is a variable it brings
-/// in its stamp so, or as the whole text of a variable.
+/// A row whose message a pattern matches brings each token of the pattern: in its stamp, and there
+/// with what stands around the token in the pattern, among the constant bytes of its log type, or
+/// in the text of one of its variables. One that stands between delimiters of the pattern and is a
+/// variable it brings in its stamp so, or as the whole text of a variable.
 pub fn rows_bring_runs()
     ensures runs { RowsBringRuns }
     ensures closed { RowsBringClosedRuns }
@@ -59,8 +59,8 @@ pub fn rows_bring_runs()
     readings_are_exact();
 }
 
-/// A row whose message a pattern matches has each run of the pattern's pieces in its stamp, where no body of
-/// its log type may have the run or go on with it behind a stamp.
+/// A row whose message a pattern matches has each run of the pattern's pieces in its stamp, where
+/// no body of its log type may have the run or go on with it behind a stamp.
 pub fn rows_bring_chunks()
     ensures { RowsBringChunks }
 {

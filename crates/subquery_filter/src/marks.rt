@@ -14,8 +14,8 @@ const SPREAD: u64 = 1024;
 /// How many places there are at least, but one.
 const LEAST: u64 = 1_048_575;
 
-/// The marks of words: those of a number stand behind its low bits. So a number that is not marked may
-/// seem so, which is rare, and none that is marked seems not to be.
+/// The marks of words: those of a number stand behind its low bits. So a number that is not marked
+/// may seem so, which is rare, and none that is marked seems not to be.
 #[derive(Debug, Drop)]
 pub(crate) struct WordMarks {
     table: Vec<u8>,

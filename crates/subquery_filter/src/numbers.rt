@@ -90,8 +90,8 @@ pub(crate) fn kind_bits(tokens: &[Token]) -> KindBits
     }
 }
 
-/// Whether some token that is no closed variable may stand in the text of a number, one with a point or
-/// without. Where none does, no digits have to be looked at.
+/// Whether some token that is no closed variable may stand in the text of a number, one with a
+/// point or without. Where none does, no digits have to be looked at.
 pub(crate) fn has_open(tokens: &[Token]) -> bool
     ensures { IsFalse result → All (λ k. k.closed ≡ None
         → is_number_part true k.text ≡ false) tokens.now }
@@ -113,8 +113,8 @@ fn is_open_number(token: &Token) -> bool
     token.numeric
 }
 
-/// The bits of the tokens that are in a whole number. Its digits are looked at only where its word does
-/// not tell them.
+/// The bits of the tokens that are in a whole number. Its digits are looked at only where its word
+/// does not tell them.
 #[inline]
 pub(crate) fn whole_bits(tokens: &[Token], small: &SmallNumbers, word: u64) -> u8
     ensures { TellsSmall tokens.now small.now → AreCoded tokens.now → (words : List (List ℕ))
@@ -132,8 +132,9 @@ pub(crate) fn whole_bits(tokens: &[Token], small: &SmallNumbers, word: u64) -> u
     exact | whole_marks(tokens, word)
 }
 
-/// Whether no token may stand in the text of a decimal but such as are digits alone, the first of which is no
-/// zero: they stand in it only where they stand in that of its digits read as one number.
+/// Whether no token may stand in the text of a decimal but such as are digits alone, the first of
+/// which is no zero: they stand in it only where they stand in that of its digits read as one
+/// number.
 #[inline]
 fn are_plain(tokens: &[Token]) -> bool
     ensures { IsTrue result → All (λ k. k.closed ≡ None → is_number_part true k.text ≡ true
@@ -147,7 +148,8 @@ fn are_plain(tokens: &[Token]) -> bool
     true
 }
 
-/// Whether a token may stand in the text of a number, and is not digits alone, the first of which is no zero.
+/// Whether a token may stand in the text of a number, and is not digits alone, the first of which
+/// is no zero.
 #[inline]
 fn is_pointed(token: &Token) -> bool
     ensures { IsFalse result → token.now.closed ≡ None → is_number_part true token.now.text ≡ true
@@ -159,7 +161,8 @@ fn is_pointed(token: &Token) -> bool
     token.numeric
 }
 
-/// The bits of the tokens, but for closed variables, that stand in the text of a decimal, by its digits.
+/// The bits of the tokens, but for closed variables, that stand in the text of a decimal, by its
+/// digits.
 #[inline(never)]
 fn printed_decimal(tokens: &[Token], word: u64) -> u8
     ensures { (text : List ℕ) → Codes text (DecimalWord word) → MarksOpen tokens.now text result }

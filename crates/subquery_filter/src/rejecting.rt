@@ -19,8 +19,8 @@ impl Filter {
         matches!(self.verdict_at(number), Some(Verdict::Rejected))
     }
 
-    /// Whether the pattern matches no message of any row of these log types, whatever else the row has.
-    /// It ends at the first log type that leaves a row. Takes no memory.
+    /// Whether the pattern matches no message of any row of these log types, whatever else the row
+    /// has. It ends at the first log type that leaves a row. Takes no memory.
     // A function of its own, so that its loop has the registers.
     #[inline(never)]
     pub fn rejects_all(&self, types: &[u32]) -> bool

@@ -39,8 +39,8 @@ pub fn barren<N: Names>(head: &Head, plan: &Plan, range: &Range, names: &N) -> b
         || lacks_types(plan, head.types.as_slice(), names)
 }
 
-/// The same as [`barren`], where the numbers of the needed words were found before: for each needed word
-/// of the plan that is a variable, at its place, its number, and none where it is no word.
+/// The same as [`barren`], where the numbers of the needed words were found before: for each needed
+/// word of the plan that is a variable, at its place, its number, and none where it is no word.
 ///
 /// Costs a binary search for each needed variable, and then a walk over the texts of the head's log
 /// types up to the first that has all.
@@ -63,8 +63,8 @@ pub fn barren_by<N: Names>(
         || lacks_types(plan, head.types.as_slice(), names)
 }
 
-/// Whether a segment has no rows, or a bound is given that leaves out all of them. These are the rules
-/// that need no list of its head.
+/// Whether a segment has no rows, or a bound is given that leaves out all of them. These are the
+/// rules that need no list of its head.
 pub fn is_outside(rows: u32, stamped: bool, least: i64, greatest: i64, range: &Range) -> bool
     ensures { IsTrue result
         ↔ ((rows ≡ 0) ⊎ (IsBounded range.now × LeavesOut range.now stamped least greatest)) }
@@ -72,8 +72,8 @@ pub fn is_outside(rows: u32, stamped: bool, least: i64, greatest: i64, range: &R
     rows == 0 || leaves_out(range, stamped, least, greatest)
 }
 
-/// Whether a bound is given, and leaves out all moments from the least to the greatest, or no row has a
-/// stamp.
+/// Whether a bound is given, and leaves out all moments from the least to the greatest, or no row
+/// has a stamp.
 fn leaves_out(range: &Range, stamped: bool, least: i64, greatest: i64) -> bool
     ensures { IsTrue result
         ↔ (IsBounded range.now × LeavesOut range.now stamped least greatest) }

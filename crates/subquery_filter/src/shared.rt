@@ -14,8 +14,8 @@ use time_patterns::StampPrinter;
 /// The numbers of patterns are below this.
 const PATTERNS: usize = 32;
 
-/// The least and the greatest moment of rows whose stamps have one pattern, and the bits of the runs that
-/// stamps of the pattern may have between the two.
+/// The least and the greatest moment of rows whose stamps have one pattern, and the bits of the
+/// runs that stamps of the pattern may have between the two.
 #[derive(Clone, Copy, Debug)]
 pub(crate) struct Span {
     pub(crate) least: i64,
@@ -30,11 +30,12 @@ const NO_SPAN: Span = Span {
     may: 0,
 };
 
-/// What goes along from row to row while the rows of a page are told: which tokens stand in all stamps
-/// of a pattern there, which runs may stand in some, and the day of the last stamp that was printed.
+/// What goes along from row to row while the rows of a page are told: which tokens stand in all
+/// stamps of a pattern there, which runs may stand in some, and the day of the last stamp that was
+/// printed.
 ///
-/// That a token stands in all of them is a hint: a row that brings all tokens so is tried, as any row
-/// may be.
+/// That a token stands in all of them is a hint: a row that brings all tokens so is tried, as any
+/// row may be.
 #[derive(Debug, Drop)]
 pub struct PageTests {
     pub(crate) printer: StampPrinter,
@@ -72,8 +73,8 @@ fn common_front(one: &[u8], other: &[u8]) -> usize
     one.len().min(other.len())
 }
 
-/// The bits of the tokens that stand, with what stands around them in the pattern, in what the stamps of the
-/// two moments have in common, and so in each stamp of a moment between them.
+/// The bits of the tokens that stand, with what stands around them in the pattern, in what the
+/// stamps of the two moments have in common, and so in each stamp of a moment between them.
 fn span_bits(tokens: &[Token], pattern: u8, span: Span, printer: &mut StampPrinter) -> u8 {
     if span.greatest < span.least {
         return 0;

@@ -1,6 +1,5 @@
 //! The slots of log types that may bring tokens.
 ghost use Rattle.std.specs.Prelude.{◌≡◌, ◌≢◌, ◌≤◌, ℕ, List, [], false, IfOk, IfSome, IsFalse, IsTrue, OnOk, Some, length, slice_get};
-ghost use Rattle.logtype_text.specs.declared.symbols.Kind.{Kind};
 ghost use Rattle.query_plan.specs.declared.pieces.Piece.{Piece};
 ghost use Rattle.subquery_filter.specs.declared.slots.Beside.{Beside};
 ghost use Rattle.subquery_filter.specs.declared.token.Token.{Token};
@@ -29,8 +28,8 @@ pub(crate) struct KindBits {
     pub(crate) word: u8,
 }
 
-/// Which bits a row has to bring, and which ones rows may bring beside the constant bytes of their log
-/// types: by stamps, by numbers and by words.
+/// Which bits a row has to bring, and which ones rows may bring beside the constant bytes of their
+/// log types: by stamps, by numbers and by words.
 #[derive(Clone, Copy, Debug)]
 pub(crate) struct Beside {
     pub(crate) wanted: u8,
@@ -43,8 +42,8 @@ pub(crate) struct Question<'a> {
     /// The bits that each kind of variable may bring.
     pub(crate) kinds: KindBits,
     pub(crate) beside: Beside,
-    /// The longest run of bytes of the pattern, as log types store constant bytes. A log type of which
-    /// the pattern matches each message has it.
+    /// The longest run of bytes of the pattern, as log types store constant bytes. A log type of
+    /// which the pattern matches each message has it.
     pub(crate) longest: Finder<'a>,
     /// The bits of all tokens.
     pub(crate) tokens: u8,
@@ -74,7 +73,8 @@ pub(crate) struct TypeTest {
 }
 
 impl Beside {
-    /// Whether rows lack some bit that is wanted, where the constant bytes of their log type bring these.
+    /// Whether rows lack some bit that is wanted, where the constant bytes of their log type bring
+    /// these.
     #[inline]
     fn lacks(&self, known: u8) -> bool
         ensures { IsTrue result → (n : ℕ) × Has n known × Has n self.now.others
@@ -97,15 +97,15 @@ impl Beside {
 }
 
 impl Question<'_> {
-    /// Whether stamps alone decide of rows of a log type which leaves these runs to them: it leaves all, or
-    /// some that no stamp may have.
+    /// Whether stamps alone decide of rows of a log type which leaves these runs to them: it leaves
+    /// all, or some that no stamp may have.
     #[inline]
     fn is_for_stamps(&self, alone: u8) -> bool {
         !has(self.stamped, alone) || (alone != 0 && has(alone, self.runs))
     }
 
-    /// Whether a log type whose constant bytes bring these bits may be certain: they bring all tokens, and the
-    /// longest run stands there.
+    /// Whether a log type whose constant bytes bring these bits may be certain: they bring all
+    /// tokens, and the longest run stands there.
     #[inline]
     fn may_be_certain(&self, known: u8, text: &[u8]) -> bool {
         has(known, self.tokens) && self.longest.find(text).is_some()
@@ -192,7 +192,8 @@ fn closed_test(verdict: Verdict, first: usize) -> TypeTest
     }
 }
 
-/// A log type of whose rows stamps alone decide: it is taken to bring all tokens, and no slot is listed.
+/// A log type of whose rows stamps alone decide: it is taken to bring all tokens, and no slot is
+/// listed.
 fn passed_test(tokens: u8, first: usize) -> TypeTest
     ensures { (plan : List Piece) (all : List Token) (beside : Beside) (slots : List Slot)
         (text : List ℕ) → HasAll all tokens → IsTest plan all beside slots text result }
@@ -205,8 +206,8 @@ fn passed_test(tokens: u8, first: usize) -> TypeTest
     }
 }
 
-/// The bits of the tokens that the constant bytes of a log type bring, where these may reject it: none is
-/// looked for where rows may bring all tokens beside them.
+/// The bits of the tokens that the constant bytes of a log type bring, where these may reject it:
+/// none is looked for where rows may bring all tokens beside them.
 fn early_gifts(tokens: &[Token], beside: &Beside, text: &[u8]) -> Option<u8>
     ensures { IfSome result (Gives tokens.now text.now) }
 {
@@ -216,7 +217,8 @@ fn early_gifts(tokens: &[Token], beside: &Beside, text: &[u8]) -> Option<u8>
     Some(gifts_of(tokens, text))
 }
 
-/// The bits of the tokens that the constant bytes of a log type bring, which may have been looked for.
+/// The bits of the tokens that the constant bytes of a log type bring, which may have been looked
+/// for.
 fn all_gifts(tokens: &[Token], early: Option<u8>, text: &[u8]) -> u8
     requires { IfSome early (Gives tokens.now text.now) }
     ensures { Gives tokens.now text.now result }
@@ -227,8 +229,8 @@ fn all_gifts(tokens: &[Token], early: Option<u8>, text: &[u8]) -> u8
     }
 }
 
-/// The bits of the runs that a log type leaves to stamps, where it is not rejected by the tokens that its
-/// constant bytes bring.
+/// The bits of the runs that a log type leaves to stamps, where it is not rejected by the tokens
+/// that its constant bytes bring.
 fn left_to_stamps(runs: &[Run], beside: &Beside, early: Option<u8>, text: &[u8]) -> u8
     ensures { IsAlone runs.now text.now result }
 {
@@ -238,8 +240,8 @@ fn left_to_stamps(runs: &[Run], beside: &Beside, early: Option<u8>, text: &[u8])
     alone_of(runs, text)
 }
 
-/// What is known of a log type of whose rows its slots decide, by the bits of the tokens that its constant
-/// bytes bring. Its slots are listed behind those before.
+/// What is known of a log type of whose rows its slots decide, by the bits of the tokens that its
+/// constant bytes bring. Its slots are listed behind those before.
 fn test_by_slots(
     plan: &Plan,
     question: &Question<'_>,
@@ -268,8 +270,8 @@ fn test_by_slots(
 
 /// What is known of a log type with this text, by the bits of the runs that it leaves to stamps.
 ///
-/// Most log types of a long log are rejected by the bytes of the tokens alone, or leave all runs to stamps:
-/// their slots are not looked at.
+/// Most log types of a long log are rejected by the bytes of the tokens alone, or leave all runs to
+/// stamps: their slots are not looked at.
 fn test_of(
     plan: &Plan,
     tokens: &[Token],
@@ -296,8 +298,8 @@ fn test_of(
     test_by_slots(plan, question, slots, text, known)
 }
 
-/// What is known of all log types, by their numbers, their slots, and the bits of the runs that they leave to
-/// stamps.
+/// What is known of all log types, by their numbers, their slots, and the bits of the runs that
+/// they leave to stamps.
 pub(crate) fn test_types<N: Names>(
     plan: &Plan,
     tokens: &[Token],

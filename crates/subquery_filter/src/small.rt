@@ -1,5 +1,5 @@
 //! What is told of whole numbers by their words, before their digits are looked at.
-ghost use Rattle.std.specs.Prelude.{◌≡◌, ◌<◌, ◌^◌, ℕ, List, IfOk, IsFalse, None, Some, false, length, slice_get};
+ghost use Rattle.std.specs.Prelude.{◌≡◌, ◌<◌, ◌^◌, ℕ, List, IfOk, Some, length, slice_get};
 ghost use Rattle.std.specs.Fmt.{decimal, signed_decimal};
 ghost use Rattle.std.specs.Int.{cast_signed, w64};
 ghost use Rattle.subquery_filter.specs.Filter.{AreSmall, IsLeast, MarksOpen, TellsSmall};
@@ -29,7 +29,8 @@ pub(crate) struct SmallNumbers {
     pub(crate) marks: Vec<u8>,
 }
 
-/// The least whole number with so many digits, or a lower one. One digit gives no bound, since 0 has one.
+/// The least whole number with so many digits, or a lower one. One digit gives no bound, since 0
+/// has one.
 fn least_with(digits: usize) -> u64
     ensures { (n : ℕ) → n < result → (n < 10 ^ 18) × (length (decimal n) < digits) }
 {
@@ -96,8 +97,8 @@ fn mark_small(alloc: Global, tokens: &[Token], least: u64) -> Result<Vec<u8>, Al
     Ok(small)
 }
 
-/// What is told of whole numbers by these tokens. The table is made only where a slot of a whole number
-/// is listed, and some token may stand in a number of it.
+/// What is told of whole numbers by these tokens. The table is made only where a slot of a whole
+/// number is listed, and some token may stand in a number of it.
 pub(crate) fn small_needed(
     alloc: Global,
     slots: &[Slot],
@@ -133,8 +134,8 @@ impl SmallNumbers {
         }
     }
 
-    /// The bits of the tokens, but for closed variables, that stand in the whole number with this word,
-    /// where these are told.
+    /// The bits of the tokens, but for closed variables, that stand in the whole number with this
+    /// word, where these are told.
     #[inline]
     pub(crate) fn bits_of(&self, word: u64) -> Option<u8>
         ensures { (tokens : List Token) (bits : ℕ) → TellsSmall tokens self.now

@@ -18,7 +18,8 @@ use token_rules::is_delim;
 /// The patterns that print stamps are below this.
 const PATTERNS: u8 = 27;
 
-/// Whether so many bytes of a text may end a stamp of the pattern, with a delimiter of the text behind them.
+/// Whether so many bytes of a text may end a stamp of the pattern, with a delimiter of the text
+/// behind them.
 fn may_end_at(pattern: u8, text: &[u8], len: usize) -> bool
     requires { len < length text.now }
     ensures { IsFalse result → (moment : ℤ) (s : List ℕ) → Prints pattern moment s
@@ -27,7 +28,8 @@ fn may_end_at(pattern: u8, text: &[u8], len: usize) -> bool
     is_delim(text[len]) && may_end(pattern, &text[..len])
 }
 
-/// Whether a stamp of the pattern may end with a front of a text, with a delimiter of the text behind it.
+/// Whether a stamp of the pattern may end with a front of a text, with a delimiter of the text
+/// behind it.
 fn may_lie_across(pattern: u8, text: &[u8]) -> bool
     ensures { IsFalse result → (moment : ℤ) (s : List ℕ) → Prints pattern moment s
         → ¬ LiesAcross text.now s }
@@ -201,8 +203,8 @@ fn pattern_within(tokens: &[Token], may: u8, pattern: u8, head: &Head) -> u8
     bits
 }
 
-/// The bits of the tokens that may stand in the stamps of a segment with this head, by what the stamps
-/// of each pattern may bring.
+/// The bits of the tokens that may stand in the stamps of a segment with this head, by what the
+/// stamps of each pattern may bring.
 pub(crate) fn bits_within(tokens: &[Token], stamps: &[u8], head: &Head) -> u8
     ensures { AreStamps tokens.now stamps.now → (pattern : ℕ) (moment : ℤ) (s : List ℕ)
         → IsWithin head.now moment → Prints pattern moment s → StampMarks tokens.now s result }

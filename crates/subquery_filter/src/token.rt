@@ -13,20 +13,21 @@ use wild_match::{Matcher, Pattern};
 pub(crate) struct Token {
     /// Its bytes.
     pub(crate) text: Text,
-    /// Its bytes with what stands around it in the pattern, without a gap between: of a closed variable
-    /// its delimiters, of another token all up to the gaps on both sides. So it stands in a stamp.
+    /// Its bytes with what stands around it in the pattern, without a gap between: of a closed
+    /// variable its delimiters, of another token all up to the gaps on both sides. So it stands in
+    /// a stamp.
     pub(crate) chunk: Text,
     /// Matches the texts that the token stands in.
     pub(crate) matcher: Matcher,
     /// The same as a pattern.
     pub(crate) pattern: Pattern,
-    /// Matches the texts of log types in which the token stands among the constant bytes, as they are
-    /// stored.
+    /// Matches the texts of log types in which the token stands among the constant bytes, as they
+    /// are stored.
     pub(crate) storing: Matcher,
     /// One of eight bits.
     pub(crate) bit: u8,
-    /// What it is stored as, where it has a digit and stands between delimiters of the pattern: then it
-    /// is all of a variable or none of it.
+    /// What it is stored as, where it has a digit and stands between delimiters of the pattern:
+    /// then it is all of a variable or none of it.
     pub(crate) closed: Option<Coded>,
     /// Whether it is no closed variable, and may stand in the text of a number.
     pub(crate) numeric: bool,

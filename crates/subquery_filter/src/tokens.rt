@@ -117,8 +117,8 @@ fn variable_code(text: &[u8]) -> Option<Coded>
     Some(encode(text))
 }
 
-/// A token with a digit between two delimiters of the pattern, and what it is stored as: a number, or a
-/// word as `04`. It is all of a variable or none of it.
+/// A token with a digit between two delimiters of the pattern, and what it is stored as: a number,
+/// or a word as `04`. It is all of a variable or none of it.
 #[derive(Clone, Copy)]
 pub(crate) struct ClosedVariable {
     pub(crate) code: Coded,
@@ -157,8 +157,8 @@ fn code_of(variable: Option<ClosedVariable>) -> Option<Coded>
     }
 }
 
-/// Appends the piece at a place where it is a token. The text of the pieces between it and the gap before
-/// it is given.
+/// Appends the piece at a place where it is a token. The text of the pieces between it and the gap
+/// before it is given.
 fn push_token(
     alloc: Global,
     tokens: &mut Vec<Token>,

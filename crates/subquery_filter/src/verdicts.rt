@@ -115,7 +115,8 @@ pub fn verdict_of(plan: &Plan, text: &[u8]) -> Verdict
     }
 }
 
-/// The same, where it is told whether the log type may be certain. That is a hint: each one may be tried.
+/// The same, where it is told whether the log type may be certain. That is a hint: each one may be
+/// tried.
 pub(crate) fn verdict_behind(plan: &Plan, text: &[u8], may_be_certain: bool) -> Verdict
     ensures rejected { (parts : List Part) → text.now ≡ type_text (map symbol_of parts)
         → result ≡ Verdict.Rejected → IsRejected plan.now parts }
