@@ -9,4 +9,4 @@ pub count_running : (s : StoreState) → s.stopped ≡ None → s.count ≡ leng
 count_running s runs = sym (ap (λ o. length (recorded s.disk.seen s.count ++ mark o)) runs ∙ (ap length (append-nil (recorded s.disk.seen s.count)) ∙ length-recorded s.disk.seen s.count))
 
 pub count_stopped : (s : StoreState) (n : ℕ) → s.stopped ≡ Some n → s.count + 1 ≡ length (store_entries s)
-count_stopped s n halted = sym (ap (λ o. length (recorded s.disk.seen s.count ++ mark o)) halted ∙ (omega (arith, length-append (recorded s.disk.seen s.count) (Stopped ∷ []), length-recorded s.disk.seen s.count)))
+count_stopped s n halted = sym (ap (λ o. length (recorded s.disk.seen s.count ++ mark o)) halted ∙ (omega (arith, length-append (recorded s.disk.seen s.count) (Stopped n ∷ []), length-recorded s.disk.seen s.count)))

@@ -76,7 +76,7 @@ module _ (n size t w : ℕ) (e : JournalEntry) (es : List JournalEntry) (s m u :
     below = omega (arith, some.below);
     stopped = some.stopped;
     journal = more_told (take some.k es) some.journal;
-    entries = more_entries (take some.k es) (Stopped ∷ []) some.entries;
+    entries = more_entries (take some.k es) (Stopped u.disk.faults ∷ []) some.entries;
   }
 
 pub some_first : (e : JournalEntry) (es : List JournalEntry) (s m : StoreState) → HasStopped s m → AddsSome (e ∷ es) s m

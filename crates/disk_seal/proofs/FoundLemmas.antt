@@ -64,7 +64,7 @@ none_found place at n gate old mid new seen fewer = record { here = refl; untold
 
 -- ---- what a store keeps whose disk was only read
 
-module _ (s : StoreState) (k : Kept s) (j : JournalState) (law : IsLawful s.disk) (law_new : IsLawful j.disk) (reads : Rereads (journal_state s) j) (no_fall : s.disk.faults ≤ j.disk.faults) where
+module _ (s : StoreState) (k : Kept s) (j : JournalState) (law : IsLawful s.disk) (law_new : IsLawful j.disk) (reads : Rereads (journal_state s) j) (no_fall : s.disk.faults ≤ j.disk.faults) (runs : s.stopped ≡ None) where
   abbrev reread : StoreState
   reread = record s { disk = j.disk; name = j.name; header = j.header; place = j.place; count = j.count; closed = j.closed }
 
@@ -100,7 +100,7 @@ module _ (s : StoreState) (k : Kept s) (j : JournalState) (law : IsLawful s.disk
         going = λ runs. ((k.going runs).0, back (λ t. AtEnd (header_bytes s.header) s.place s.count t j.disk.images) (end_stays (header_bytes s.header) s.place s.count s.disk.seen s.disk.images j.disk.images reads.rests.no_more (k.going runs).1));
         at_opening = k.at_opening;
         risen = omega (arith, k.risen, no_fall);
-        fault = λ n is. ((k.fault n is).0, omega (arith, (k.fault n is).1, no_fall));
+        fault = λ n is. absurd (cc (runs, is));
         types = back (λ t. KnowsTypes (tells s) s.header s.types s.types_saved (journal_in t s.count)) k.types;
         words = back (λ t. KnowsWords (tells s) s.header s.words s.words_saved (journal_in t s.count)) k.words;
       }
@@ -116,7 +116,7 @@ module _ (s : StoreState) (k : Kept s) (j : JournalState) (law : IsLawful s.disk
   list_stays = ap (λ l. l ++ mark s.stopped) recorded_stays
 
   -- and where a fault stops it, it has the mark
-  module _ (n : ℕ) (runs : s.stopped ≡ None) (failed : Rose s.disk.faults j.disk.faults) (counted : n ≡ j.disk.faults) where
+  module _ (n : ℕ) (failed : Rose s.disk.faults j.disk.faults) (counted : n ≡ j.disk.faults) where
     abbrev failed_now : StoreState
     failed_now = record reread { stopped = Some n }
 
@@ -146,8 +146,8 @@ module _ (s : StoreState) (k : Kept s) (j : JournalState) (law : IsLawful s.disk
           words = r.words;
         }
 
-    pub list_marked : store_entries failed_now ≡ store_entries s ++ Stopped ∷ []
-    list_marked = ap (λ l. l ++ Stopped ∷ []) (recorded_stays ∙ sym (append-nil (recorded s.disk.seen s.count)) ∙ ap (λ o. recorded s.disk.seen s.count ++ mark o) (sym runs))
+    pub list_marked : store_entries failed_now ≡ store_entries s ++ Stopped n ∷ []
+    list_marked = ap (λ l. l ++ Stopped n ∷ []) (recorded_stays ∙ sym (append-nil (recorded s.disk.seen s.count)) ∙ ap (λ o. recorded s.disk.seen s.count ++ mark o) (sym runs))
 
 -- ---- from records to entries
 

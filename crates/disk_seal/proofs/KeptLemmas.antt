@@ -286,7 +286,7 @@ module _ (s : StoreState) (k : Kept s) (runs : s.stopped ≡ None) (r : Saved) (
     has_halted = record {
       stopped = refl;
       journal = journal_stays;
-      entries = ap (λ l. l ++ Stopped ∷ []) (recorded_same s.disk.seen j.disk.seen s.count goes.tells same_entries
+      entries = ap (λ l. l ++ Stopped j.disk.faults ∷ []) (recorded_same s.disk.seen j.disk.seen s.count goes.tells same_entries
           ∙ (sym (append-nil (recorded s.disk.seen s.count)) ∙ ap (λ o. recorded s.disk.seen s.count ++ mark o) (sym runs)));
     }
 

@@ -13,3 +13,5 @@ pub mod PrepareLemmas
 pub mod OpenLemmas
 pub mod FoundLemmas
 pub mod LookedLemmas
+pub mod MarkLemmas
+pub mod DurableLemmas

@@ -16,7 +16,7 @@ use Rattle.disk_seal.specs.declared.fixed.StoreFixed.{StoreFixed}
 use Rattle.disk_seal.specs.declared.found.Found.{Found}
 use Rattle.disk_seal.specs.declared.found.FoundRefusal.{FoundRefusal}
 use Rattle.disk_seal.specs.declared.found.FoundRefusal.TheVariants.{DiskFault as fault_found, Damaged, OutOfMemory}
-use Rattle.disk_seal.specs.Told.{IfTold, journal_in, recorded, mark, blanks}
+use Rattle.disk_seal.specs.Told.{IfTold, journal_in, recorded, mark, IsMark, blanks}
 use Rattle.disk_seal.specs.View.{StoreView, StoreState, state_by, tells, journal_of, store_entries, Kept}
 use Rattle.disk_seal.specs.Fixed.{fixed_of, KeeperPass}
 use Rattle.disk_seal.specs.May.{MayAdd}
@@ -37,7 +37,7 @@ pub length_joined : (xs ys : List StoreEntry) → journal_length (xs ++ ys) ≡ 
 length_joined [] ys = omega arith
 length_joined (Entry e ∷ xs) ys = omega (arith, length_joined xs ys)
 length_joined (Blank ∷ xs) ys = omega (arith, length_joined xs ys)
-length_joined (Stopped ∷ xs) ys = length_joined xs ys
+length_joined (Stopped n ∷ xs) ys = length_joined xs ys
 
 length_blank : (n : ℕ) → journal_length (blanks n) ≡ n
 length_blank zero = refl
@@ -107,7 +107,7 @@ module _ {D : Type 0} (state : D → DiskState) (p m : KeeperPass D) (v : StoreV
 
     -- nothing, or the mark, stands behind what was there
     abbrev Marks : Type 0
-    Marks = (rest : List StoreEntry) × (store_entries t ≡ store_entries s ++ rest) × ((rest ≡ []) ⊎ (rest ≡ Stopped ∷ []))
+    Marks = (rest : List StoreEntry) × (store_entries t ≡ store_entries s ++ rest) × ((rest ≡ []) ⊎ ((n : ℕ) × (rest ≡ Stopped n ∷ [])))
 
     no_marks : store_entries t ≡ store_entries s → Marks
     no_marks same = ([], same ∙ sym (append-nil (store_entries s)), inl refl)
@@ -116,7 +116,7 @@ module _ {D : Type 0} (state : D → DiskState) (p m : KeeperPass D) (v : StoreV
     failed_marks f has = by_stop v.stopped refl
       where
         by_stop : (o : Option ℕ) → v.stopped ≡ o → Marks
-        by_stop None is = (Stopped ∷ [], has.halts is, inr refl)
+        by_stop None is = (Stopped f.now ∷ [], has.halts is, inr (f.now, refl))
         by_stop (Some n) is = no_marks (ap (λ (x : StoreView D). store_entries (state_by state x)) (has.rests (λ none. absurd (cc (none, is)))))
 
     pub marks_by : (at : ℕ) (r : Result (Option Found) FoundRefusal) → OnOk r (RunsOn state v w) → ((opened now : ℕ) → IsErrOf r (fault_found opened now) → HasFailed state (record { opened = opened; now = now }) v w)
@@ -132,12 +132,12 @@ module _ {D : Type 0} (state : D → DiskState) (p m : KeeperPass D) (v : StoreV
       marks.1 ∙ ap (λ l. l ++ marks.0) entries_are,
       ⊎_elim
           (λ (none : marks.0 ≡ []). subst (All (MayAdd (number_of m))) (sym none) (All-nil (MayAdd (number_of m))))
-          (λ (one : marks.0 ≡ Stopped ∷ []). subst (All (MayAdd (number_of m))) (sym one) (only_mark (number_of m))) marks.2,
+          (λ (one : (n : ℕ) × (marks.0 ≡ Stopped n ∷ [])). subst (All (MayAdd (number_of m))) (sym one.1) (only_mark (number_of m) one.0)) marks.2,
     )
       where
-        only_mark : (n : ℕ) → All (MayAdd n) (Stopped ∷ [])
-        only_mark n zero d lt = tt
-        only_mark n (suc i) d lt = absurd (omega (arith, lt))
+        only_mark : (n now : ℕ) → All (MayAdd n) (Stopped now ∷ [])
+        only_mark n now zero d lt = tt
+        only_mark n now (suc i) d lt = absurd (omega (arith, lt))
 
     pub fixed_still : HasFixed fixed_of (about m) w
     fixed_still a is = same ∙ fixed a (sym first_still.about_is ∙ is)
@@ -164,19 +164,19 @@ module _ {D : Type 0} (state : D → DiskState) (p m : KeeperPass D) (v : StoreV
             behind = all_behind marks.0 (length (seen p)) (length (seen m)) low marks.2;
           }
         where
-          only_marks : (rest : List StoreEntry) (n : ℕ) → (rest ≡ []) ⊎ (rest ≡ Stopped ∷ []) → All (λ (x : ℕ × StoreEntry). x.1 ≡ Stopped) (places n rest)
+          only_marks : (rest : List StoreEntry) (n : ℕ) → (rest ≡ []) ⊎ ((k : ℕ) × (rest ≡ Stopped k ∷ [])) → All (λ (x : ℕ × StoreEntry). IsMark x.1) (places n rest)
           only_marks [] n either i d lt = absurd (omega (arith, lt))
           only_marks (e ∷ es) n (inl none) i d lt = absurd (cc (none))
-          only_marks (e ∷ []) n (inr one) zero d lt = cc (one)
+          only_marks (e ∷ []) n (inr one) zero d lt = let is : e ≡ Stopped one.0 = cc (one.1) in subst IsMark (sym is) tt
           only_marks (e ∷ []) n (inr one) (suc i) d lt = absurd (omega (arith, lt))
-          only_marks (e ∷ x ∷ es) n (inr one) i d lt = absurd (cc (one))
+          only_marks (e ∷ x ∷ es) n (inr one) i d lt = absurd (cc (one.1))
 
-          all_behind : (rest : List StoreEntry) (low n : ℕ) → low ≤ n → (rest ≡ []) ⊎ (rest ≡ Stopped ∷ []) → All (λ (x : ℕ × StoreEntry). low ≤ x.0) (places n rest)
+          all_behind : (rest : List StoreEntry) (low n : ℕ) → low ≤ n → (rest ≡ []) ⊎ ((k : ℕ) × (rest ≡ Stopped k ∷ [])) → All (λ (x : ℕ × StoreEntry). low ≤ x.0) (places n rest)
           all_behind [] low n le either i d lt = absurd (omega (arith, lt))
           all_behind (e ∷ es) low n le (inl none) i d lt = absurd (cc (none))
           all_behind (e ∷ []) low n le (inr one) zero d lt = le
           all_behind (e ∷ []) low n le (inr one) (suc i) d lt = absurd (omega (arith, lt))
-          all_behind (e ∷ x ∷ es) low n le (inr one) i d lt = absurd (cc (one))
+          all_behind (e ∷ x ∷ es) low n le (inr one) i d lt = absurd (cc (one.1))
 
       -- what is told of the store is told of what the pass has seen
       pub where_told : (P : Header → List JournalEntry → Type 0) → store_entries t ≡ store_entries s → IfTold (tells s) (P v.header (journal_of s)) → WhereTold state q P
@@ -208,7 +208,7 @@ module _ {D : Type 0} (state : D → DiskState) (p m : KeeperPass D) (v : StoreV
           rose = has.fault.rose;
         };
         marked =
-            (recorded t.disk.seen t.count, ([], append-nil (recorded t.disk.seen t.count ++ Stopped ∷ []) ∙ sym (seen_is ∙ ap (λ o. recorded t.disk.seen t.count ++ mark o) has.fault.now)));
+            (recorded t.disk.seen t.count, ([], append-nil (recorded t.disk.seen t.count ++ Stopped f.now ∷ []) ∙ sym (seen_is ∙ ap (λ o. recorded t.disk.seen t.count ++ mark o) has.fault.now)));
       }
 
       pub tells_nothing : (place at : ℕ) → IsUntold place at s → TellsNothing state place at q
@@ -236,7 +236,7 @@ module _ {D : Type 0} where
     seen_on = ([], append-nil (seen p));
     marks = [];
     own = sym (append-nil (own_list p));
-    only = All-nil (λ (x : ℕ × StoreEntry). x.1 ≡ Stopped);
+    only = All-nil (λ (x : ℕ × StoreEntry). IsMark x.1);
     behind = All-nil (λ (x : ℕ × StoreEntry). length (seen p) ≤ x.0);
   }
 
@@ -247,7 +247,7 @@ module _ {D : Type 0} where
     seen_on = (first.seen_on.0 ++ second.seen_on.0, sym (append_assoc (seen p) first.seen_on.0 second.seen_on.0) ∙ ap (λ l. l ++ second.seen_on.0) first.seen_on.1 ∙ second.seen_on.1);
     marks = first.marks ++ second.marks;
     own = second.own ∙ ap (λ l. l ++ second.marks) first.own ∙ append_assoc (own_list p) first.marks second.marks;
-    only = All-append (λ (x : ℕ × StoreEntry). x.1 ≡ Stopped) first.marks second.marks first.only second.only;
+    only = All-append (λ (x : ℕ × StoreEntry). IsMark x.1) first.marks second.marks first.only second.only;
     behind = All-append (λ (x : ℕ × StoreEntry). length (seen p) ≤ x.0) first.marks second.marks first.behind (λ i d lt. omega (arith, longer_seen p q first, second.behind i d lt));
   }
 

@@ -38,7 +38,7 @@ pub seen_joined : (xs ys : List StoreEntry) → journal_seen (xs ++ ys) ≡ jour
 seen_joined [] ys = refl
 seen_joined (Entry e ∷ xs) ys = ap (λ l. e ∷ l) (seen_joined xs ys)
 seen_joined (Blank ∷ xs) ys = seen_joined xs ys
-seen_joined (Stopped ∷ xs) ys = seen_joined xs ys
+seen_joined (Stopped n ∷ xs) ys = seen_joined xs ys
 
 pub seen_all : (es : List JournalEntry) → journal_seen (map (λ (e : JournalEntry). Entry e) es) ≡ es
 seen_all [] = refl
@@ -51,7 +51,7 @@ ByOthers file xs = (i : ℕ) (x : StoreEntry) → slice_get xs i ≡ Some x → 
 leaves_by : (file : ℕ) (xs : List StoreEntry) → ByOthers file xs → LeavesFile file (journal_seen xs)
 leaves_by file [] others = tt
 leaves_by file (Blank ∷ xs) others = leaves_by file xs (λ i x at. others (suc i) x at)
-leaves_by file (Stopped ∷ xs) others = leaves_by file xs (λ i x at. others (suc i) x at)
+leaves_by file (Stopped n ∷ xs) others = leaves_by file xs (λ i x at. others (suc i) x at)
 leaves_by file (Entry (Files names) ∷ xs) others = leaves_by file xs (λ i x at. others (suc i) x at)
 leaves_by file (Entry (Types first texts) ∷ xs) others = leaves_by file xs (λ i x at. others (suc i) x at)
 leaves_by file (Entry (Words first texts) ∷ xs) others = leaves_by file xs (λ i x at. others (suc i) x at)

@@ -7,7 +7,6 @@ use Rattle.log_seams.specs.Disk.{DiskState}
 use Rattle.log_seams.specs.Outside.{Rose}
 use Rattle.turn_lock.specs.Words.{seen, number_of, about, lock_of, IsReady, IsStill, HasFixed, Adds, OwnsMore}
 use Rattle.archive_meaning.specs.declared.entry.JournalEntry.{JournalEntry}
-use Rattle.archive_meaning.specs.Stands.{StandsFor}
 use Rattle.disk_seal.specs.declared.entry.StoreEntry.{StoreEntry}
 use Rattle.disk_seal.specs.declared.entry.StoreEntry.TheVariants.{Stopped}
 use Rattle.disk_seal.specs.declared.faults.DiskFault.{DiskFault}
@@ -20,9 +19,7 @@ use Rattle.disk_seal.specs.Adding.{Stays, LeavesFirst}
 use Rattle.disk_seal.specs.declared.fixed.StoreFixed.{StoreFixed}
 use Rattle.disk_seal.specs.Prepare.{IsFaultOf}
 use Rattle.disk_seal.specs.Pieces.{added_by, AddsAll, AddsSome}
-use Rattle.disk_seal.specs.Sealing.{told_as, IsHalted, HasFault, InHand, HasGrown, HasGrownSome, HasPutBack, IsDurable, IsFaultIn, MayPut}
-use Rattle.disk_seal.proofs.ToldLemmas.{told_both}
-use Rattle.disk_seal.proofs.KeptLemmas.{stands_now}
+use Rattle.disk_seal.specs.Sealing.{told_as, IsHalted, HasFault, InHand, HasGrown, HasGrownSome, HasPutBack, MayPut}
 
 -- ---- a fault
 
@@ -51,12 +48,12 @@ rest_of es s t n may (Err f) size all halted =
     (λ (some : (s.stopped ≡ None) × AddsSome es s t).
     let k = some.1.k in
     let front : All (MayAdd n) (map (entry_for (tells s)) (take k es)) = subst (All (MayAdd n)) (take-map (entry_for (tells s)) k es) (All-take (MayAdd n) k (told_as s es) may) in
-    (map (entry_for (tells s)) (take k es) ++ Stopped ∷ [], some.1.entries, All-append (MayAdd n) (map (entry_for (tells s)) (take k es)) (Stopped ∷ []) front (only_mark n)))
+    (map (entry_for (tells s)) (take k es) ++ Stopped t.disk.faults ∷ [], some.1.entries, All-append (MayAdd n) (map (entry_for (tells s)) (take k es)) (Stopped t.disk.faults ∷ []) front (only_mark n t.disk.faults)))
     halted
   where
-    only_mark : (n : ℕ) → All (MayAdd n) (Stopped ∷ [])
-    only_mark n zero d lt = tt
-    only_mark n (suc k) d lt = absurd (omega (arith, lt))
+    only_mark : (n now : ℕ) → All (MayAdd n) (Stopped now ∷ [])
+    only_mark n now zero d lt = tt
+    only_mark n now (suc k) d lt = absurd (omega (arith, lt))
 
 module _ {D : Type 0} where
   same_fixed : (v w : StoreView D) → Stays v w → fixed_of w ≡ fixed_of v
@@ -94,15 +91,19 @@ module _ {D : Type 0} where
         all_of (Ok end) all = grows (told_as s (added_by ps)) all.entries
         all_of (Err f) all = tt
 
-    pub grown_some : OnErr r (IsHalted (added_by ps) s t) → OnErr r (HasGrownSome (added_by ps) s p q)
-    grown_some halted = some_of r halted
+    pub grown_some : (v.stopped ≢ None → w ≡ v) → OnErr r (IsHalted (added_by ps) s t) → IfErr r (λ f. HasFault f t) → IfErr r (λ f. HasGrownSome f.now (added_by ps) s p q)
+    grown_some rests halted fault = some_of r halted fault
       where
-        some_of : (r : Result ℕ DiskFault) → OnErr r (IsHalted (added_by ps) s t) → OnErr r (HasGrownSome (added_by ps) s p q)
-        some_of (Ok end) halted = tt
-        some_of (Err f) halted =
+        some_of : (r : Result ℕ DiskFault) → OnErr r (IsHalted (added_by ps) s t) → IfErr r (λ f. HasFault f t) → IfErr r (λ f. HasGrownSome f.now (added_by ps) s p q)
+        some_of (Ok end) halted has = tt
+        some_of (Err f) halted has =
             ⊎_elim
-            (λ (was : (s.stopped ≢ None) × (store_entries t ≡ store_entries s)). inl (was.0, grows [] (was.1 ∙ sym (append-nil (store_entries s)))))
-            (λ (some : (s.stopped ≡ None) × AddsSome (added_by ps) s t). inr (some.0, (some.1.k, some.1.below, grows (told_as s (take some.1.k (added_by ps)) ++ Stopped ∷ []) some.1.entries)))
+            (λ (was : (s.stopped ≢ None) × (store_entries t ≡ store_entries s)).
+            inl (sym (ap (λ (x : StoreView D). x.stopped) (rests was.0)) ∙ has.now, grows [] (was.1 ∙ sym (append-nil (store_entries s)))))
+            (λ (some : (s.stopped ≡ None) × AddsSome (added_by ps) s t).
+            let count : t.disk.faults ≡ f.now = cc (has.now, some.1.stopped) in
+            let k = some.1.k in
+            inr (some.0, (k, some.1.below, subst (λ (n : ℕ). HasGrown (told_as s (take k (added_by ps)) ++ Stopped n ∷ []) p q) count (grows (told_as s (take k (added_by ps)) ++ Stopped t.disk.faults ∷ []) some.1.entries))))
             halted
 
     pub end_there : OnOk r (AddsAll size (added_by ps) s t) → IfOk r (λ end. end ≡ w.place + 1) → IfOk r (λ end. end ≡ v.place + size + 1)
@@ -115,36 +116,3 @@ module _ {D : Type 0} where
     module _ (st : Stays v w) (leaves : v.stopped ≡ None → LeavesFirst (added_by ps) s t) (rests : v.stopped ≢ None → w ≡ v) where
       abbrev pub put_back : HasPutBack state v (added_by ps) q
       put_back = record { store = w; entries = sym is; leaves = leaves; rests = rests }
-
-      tells_same : tells t ≡ tells s
-      tells_same = ap (λ (d : D). is_some (state d).seen) st.opened
-
-      abbrev Whole : List ℕ → Type 0
-      Whole c = IfTold (tells s) (StandsFor c v.header (journal_of s ++ added_by ps))
-
-      pub durable : Kept t → OnOk r (AddsAll size (added_by ps) s t) → OnOk r (IsDurable state v (added_by ps) q)
-      durable k all = durable_of r all
-        where
-          whole : AddsAll size (added_by ps) s t → (c : List ℕ) → t.disk.images c → Whole c
-          whole all c image =
-              told_both (tells s) (λ (stands : StandsFor c t.header (journal_of t)) (more : journal_of t ≡ journal_of s ++ added_by ps).
-              subst (λ h. StandsFor c h (journal_of s ++ added_by ps)) st.header (subst (StandsFor c t.header) more stands))
-              (subst (λ b. IfTold b (StandsFor c t.header (journal_of t))) tells_same (stands_now t k all.stopped c image)) all.journal
-
-          durable_of : (r : Result ℕ DiskFault) → OnOk r (AddsAll size (added_by ps) s t) → OnOk r (IsDurable state v (added_by ps) q)
-          durable_of (Ok end) all = record { back = put_back; kept = whole all }
-          durable_of (Err f) all = tt
-
-      pub fault_in : OnErr r (IsHalted (added_by ps) s t) → IfErr r (λ f. HasFault f t) → IfErr r (λ f. IsFaultIn state v (added_by ps) f q)
-      fault_in halted fault = fault_of_answer r halted fault
-        where
-          counted : (f : DiskFault) → IsHalted (added_by ps) s t → HasFault f t → v.stopped ≡ None → f.now ≡ t.disk.faults
-          counted f halted has runs =
-              ⊎_elim
-              (λ (was : (s.stopped ≢ None) × (store_entries t ≡ store_entries s)). absurd (was.0 runs))
-              (λ (some : (s.stopped ≡ None) × AddsSome (added_by ps) s t). cc (has.now, some.1.stopped))
-              halted
-
-          fault_of_answer : (r : Result ℕ DiskFault) → OnErr r (IsHalted (added_by ps) s t) → IfErr r (λ f. HasFault f t) → IfErr r (λ f. IsFaultIn state v (added_by ps) f q)
-          fault_of_answer (Ok end) halted has = tt
-          fault_of_answer (Err f) halted has = record { back = put_back; stopped = has.now; now = counted f halted has }

@@ -80,7 +80,7 @@ pub record HasOneMore (size types words : ℕ) (e : JournalEntry) (s t : StoreSt
 pub record HasStopped (s t : StoreState) : Type 0 where
   pub stopped : t.stopped ≡ Some t.disk.faults
   pub journal : journal_of t ≡ journal_of s
-  pub entries : store_entries t ≡ store_entries s ++ Stopped ∷ []
+  pub entries : store_entries t ≡ store_entries s ++ Stopped t.disk.faults ∷ []
 
 -- a crash at any moment leaves the journal of before, with none, the first, .. or all of the entries
 abbrev pub LeavesFirst : List JournalEntry → StoreState → StoreState → Type 0

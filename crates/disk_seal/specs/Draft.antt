@@ -14,7 +14,7 @@ abbrev pub journal_seen : List StoreEntry → List JournalEntry
 journal_seen [] = []
 journal_seen (Entry e ∷ es) = e ∷ journal_seen es
 journal_seen (Blank ∷ es) = journal_seen es
-journal_seen (Stopped ∷ es) = journal_seen es
+journal_seen (Stopped now ∷ es) = journal_seen es
 
 -- Behind these entries and with these texts the segment goes on with its file, which has a name: its rows are the encodings
 -- of some messages, and the numbers are those of the words that they name, sorted, each once.

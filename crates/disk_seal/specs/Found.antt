@@ -82,4 +82,4 @@ module _ {D : Type 0} where
     pub fault : HasFault f (state_by state w)
     pub rests : v.stopped ≢ None → w ≡ v
     pub halts : v.stopped ≡ None
-        → store_entries (state_by state w) ≡ store_entries (state_by state v) ++ Stopped ∷ []
+        → store_entries (state_by state w) ≡ store_entries (state_by state v) ++ Stopped f.now ∷ []

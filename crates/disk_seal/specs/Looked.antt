@@ -11,7 +11,7 @@ use Rattle.disk_seal.specs.declared.entry.StoreEntry.TheVariants.{Entry, Blank, 
 use Rattle.disk_seal.specs.declared.faults.DiskFault.{DiskFault}
 use Rattle.disk_seal.specs.declared.fixed.StoreFixed.{StoreFixed}
 use Rattle.disk_seal.specs.declared.found.Found.{Found}
-use Rattle.disk_seal.specs.Told.{IfTold}
+use Rattle.disk_seal.specs.Told.{IfTold, IsMark}
 use Rattle.disk_seal.specs.Fixed.{KeeperPass}
 use Rattle.disk_seal.specs.Draft.{journal_seen}
 use Rattle.disk_seal.specs.Prepare.{IsFaultOf}
@@ -22,11 +22,15 @@ abbrev pub journal_length : List StoreEntry → ℕ
 journal_length [] = 0
 journal_length (Entry e ∷ es) = suc (journal_length es)
 journal_length (Blank ∷ es) = suc (journal_length es)
-journal_length (Stopped ∷ es) = journal_length es
+journal_length (Stopped now ∷ es) = journal_length es
+
+-- the list has the mark of a store that was stopped at this count of faults
+abbrev pub IsMarkedBy : ℕ → List StoreEntry → Type 0
+IsMarkedBy now es = (front : List StoreEntry) × IsPrefix (front ++ Stopped now ∷ []) es
 
 -- the list has the mark of a store that is stopped
 abbrev pub IsMarked : List StoreEntry → Type 0
-IsMarked es = (front : List StoreEntry) × IsPrefix (front ++ Stopped ∷ []) es
+IsMarked es = (now : ℕ) × IsMarkedBy now es
 
 module _ {D : Type 0} where
   -- where the disk tells its bytes, P of the header and of the entries that the pass has seen
@@ -46,7 +50,7 @@ module _ {D : Type 0} where
     pub seen_on : IsPrefix (seen p) (seen q)
     pub marks : List (ℕ × StoreEntry)
     pub own : own_list q ≡ own_list p ++ marks
-    pub only : All (λ x. x.1 ≡ Stopped) marks
+    pub only : All (λ x. IsMark x.1) marks
     pub behind : All (λ x. length (seen p) ≤ x.0) marks
 
   -- a whole record stands behind the gate at this place, and is that of the next entry that the pass has seen
@@ -58,10 +62,10 @@ module _ {D : Type 0} where
   abbrev pub HasNone : (D → DiskState) → ℕ → KeeperPass D → Type 0
   HasNone state at q = WhereTold state q (λ h es. IsEndIn h es at)
 
-  -- the counts of a fault that has stopped the store, whose mark the pass has seen
+  -- the counts of a fault that has stopped the store, whose mark with its count the pass has seen
   pub record HasHalted (state : D → DiskState) (f : DiskFault) (q : KeeperPass D) : Type 0 where
     pub fault : IsFaultOf state f q
-    pub marked : IsMarked (seen q)
+    pub marked : IsMarkedBy f.now (seen q)
 
   -- no whole record was read at the place, over a disk that does not tell its bytes
   pub record TellsNothing (state : D → DiskState) (place at : ℕ) (q : KeeperPass D) : Type 0 where

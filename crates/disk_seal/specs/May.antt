@@ -15,4 +15,4 @@ MayJournal n (Segment s) = s.file ≡ n
 abbrev pub MayAdd : ℕ → StoreEntry → Type 0
 MayAdd n (Entry e) = MayJournal n e
 MayAdd n Blank = Unit {0}
-MayAdd n Stopped = Unit {0}
+MayAdd n (Stopped now) = Unit {0}

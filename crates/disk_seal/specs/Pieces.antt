@@ -45,4 +45,4 @@ pub record AddsSome (es : List JournalEntry) (s t : StoreState) : Type 0 where
   pub below : k < length es
   pub stopped : t.stopped ≡ Some t.disk.faults
   pub journal : IfTold (tells s) (journal_of t ≡ journal_of s ++ take k es)
-  pub entries : store_entries t ≡ store_entries s ++ (map (entry_for (tells s)) (take k es) ++ Stopped ∷ [])
+  pub entries : store_entries t ≡ store_entries s ++ (map (entry_for (tells s)) (take k es) ++ Stopped t.disk.faults ∷ [])

@@ -11,7 +11,7 @@ use Rattle.disk_seal.specs.declared.entry.StoreEntry.TheVariants.{Stopped}
 use Rattle.disk_seal.specs.declared.faults.DiskFault.{DiskFault}
 use Rattle.disk_seal.specs.declared.pieces.Piece.{Piece}
 use Rattle.disk_seal.specs.Told.{IfTold, entry_for}
-use Rattle.disk_seal.specs.View.{StoreView, StoreState, state_by, tells, journal_of, store_entries}
+use Rattle.disk_seal.specs.View.{StoreView, StoreState, state_by, tells, journal_of, store_entries, Kept}
 use Rattle.disk_seal.specs.Fixed.{fixed_of, KeeperPass}
 use Rattle.disk_seal.specs.May.{MayAdd}
 use Rattle.disk_seal.specs.Adding.{front_of, LeavesFirst}
@@ -45,11 +45,12 @@ module _ {D : Type 0} where
     pub seen_is : seen q ≡ seen p ++ es
     pub own_is : own_list q ≡ own_list p ++ places (length (seen p)) es
 
-  -- it has added none to a store that was stopped; or the first of these entries, not all, and the mark
-  abbrev pub HasGrownSome : List JournalEntry → StoreState → KeeperPass D → KeeperPass D → Type 0
-  HasGrownSome es s p q =
-      ((s.stopped ≢ None) × HasGrown [] p q)
-      ⊎ ((s.stopped ≡ None) × ((k : ℕ) × (k < length es) × HasGrown (told_as s (take k es) ++ Stopped ∷ []) p q))
+  -- it has added none to a store that was stopped at this count of faults; or the first of these entries, not all, and the mark
+  -- with this count
+  abbrev pub HasGrownSome : ℕ → List JournalEntry → StoreState → KeeperPass D → KeeperPass D → Type 0
+  HasGrownSome now es s p q =
+      ((s.stopped ≡ Some now) × HasGrown [] p q)
+      ⊎ ((s.stopped ≡ None) × ((k : ℕ) × (k < length es) × HasGrown (told_as s (take k es) ++ Stopped now ∷ []) p q))
 
   -- The pieces may be added to the store by the pass.
   pub record MayPut (state : D → DiskState) (v : StoreView D) (ps : List Piece) (p : KeeperPass D) : Type 0 where
@@ -65,15 +66,19 @@ module _ {D : Type 0} where
     pub leaves : v.stopped ≡ None → LeavesFirst es (state_by state v) (state_by state store)
     pub rests : v.stopped ≢ None → store ≡ v
 
-  -- Behind a receipt every image of the store that was put back is an archive with the journal of before and all of the entries.
-  pub record IsDurable (state : D → DiskState) (v : StoreView D) (es : List JournalEntry) (q : KeeperPass D) : Type 0 where
-    pub back : HasPutBack state v es q
-    pub kept : (c : List ℕ) → (state back.store.disk).images c
-        → IfTold (tells (state_by state v)) (StandsFor c v.header (journal_of (state_by state v) ++ es))
+  -- a store may be the one in the lock: it keeps what a store keeps, has the lock's fixed part, and the list that the pass has seen
+  pub record IsSeenBy (state : D → DiskState) (q : KeeperPass D) (w : StoreView D) : Type 0 where
+    pub kept : Kept (state_by state w)
+    pub fixed : HasFixed fixed_of (about q) w
+    pub entries : store_entries (state_by state w) ≡ seen q
 
-  -- The fault is the one that stopped the store that was put back. Where it came now, its count is that of the disk.
-  pub record IsFaultIn (state : D → DiskState) (v : StoreView D) (es : List JournalEntry) (f : DiskFault) (q : KeeperPass D)
-      : Type 0 where
-    pub back : HasPutBack state v es q
-    pub stopped : back.store.stopped ≡ Some f.now
-    pub now : v.stopped ≡ None → f.now ≡ (state back.store.disk).faults
+  -- Behind a receipt every image of a store with the list that the pass has seen is an archive with the journal of before and all
+  -- of the entries.
+  abbrev pub IsDurable : (D → DiskState) → StoreView D → List JournalEntry → KeeperPass D → Type 0
+  IsDurable state v es q =
+      (w : StoreView D) → IsSeenBy state q w → (c : List ℕ) → (state w.disk).images c
+      → IfTold (tells (state_by state v)) (StandsFor c v.header (journal_of (state_by state v) ++ es))
+
+  -- The fault is the one that stopped each store with the list that the pass has seen, and its count is that of the disk.
+  abbrev pub IsFaultIn : (D → DiskState) → DiskFault → KeeperPass D → Type 0
+  IsFaultIn state f q = (w : StoreView D) → IsSeenBy state q w → (w.stopped ≡ Some f.now) × (f.now ≡ (state w.disk).faults)

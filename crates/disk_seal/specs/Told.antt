@@ -29,10 +29,16 @@ abbrev pub recorded : Option (List ℕ) → ℕ → List StoreEntry
 recorded None n = blanks n
 recorded (Some bytes) n = map Entry (journal_in (Some bytes) n)
 
--- the mark of a store that a fault has stopped
+-- the mark of a store that a fault has stopped, with the count of faults then
 abbrev pub mark : Option ℕ → List StoreEntry
 mark None = []
-mark (Some now) = Stopped ∷ []
+mark (Some now) = Stopped now ∷ []
+
+-- the entry is such a mark
+abbrev pub IsMark : StoreEntry → Type 0
+IsMark (Entry e) = ⊥
+IsMark Blank = ⊥
+IsMark (Stopped now) = Unit {0}
 
 -- what the store's list has of an entry
 abbrev pub entry_for : Bool → JournalEntry → StoreEntry

@@ -148,7 +148,7 @@ pub record Kept (s : StoreState) : Type 0 where
   -- faults
   pub at_opening : s.faults ≡ s.opened.faults
   pub risen : s.opened.faults ≤ s.disk.faults
-  pub fault : (now : ℕ) → s.stopped ≡ Some now → Rose s.opened.faults now × (now ≤ s.disk.faults)
+  pub fault : (now : ℕ) → s.stopped ≡ Some now → Rose s.opened.faults now × (now ≡ s.disk.faults)
   -- the books
   pub types : KnowsTypes (tells s) s.header s.types s.types_saved (journal_of s)
   pub words : KnowsWords (tells s) s.header s.words s.words_saved (journal_of s)

@@ -9,6 +9,7 @@ pub enum StoreEntry {
     Entry(JournalEntry),
     /// An entry of a journal whose disk does not tell its bytes.
     Blank,
-    /// The mark of a store that a fault of its disk has stopped. Nothing follows it.
-    Stopped,
+    /// The mark of a store that a fault of its disk has stopped, with the disk's count of faults then.
+    /// Nothing follows it.
+    Stopped(u64),
 }

@@ -102,7 +102,7 @@ pub(crate) fn put_pieces<'d, 'b, D: Disk>(
         (told_as (state_by D.state turn.entry.value) (added_by pieces.now)) pass.old pass.new) }
     ensures end { IfOk result (λ end. end ≡ turn.entry.value.place + size_of pieces.now + 1) }
     ensures runs { OnOk result (turn.entry.value.stopped ≡ None) }
-    ensures halted { OnErr result (HasGrownSome (added_by pieces.now)
+    ensures halted { IfErr result (λ f. HasGrownSome f.now (added_by pieces.now)
         (state_by D.state turn.entry.value) pass.old pass.new) }
     ensures fault { IfErr result (λ f. IsFaultOf D.state f pass.old) }
 
@@ -110,12 +110,11 @@ pub(crate) fn put_pieces<'d, 'b, D: Disk>(
     ensures moments { HasPutBack D.state turn.entry.value (added_by pieces.now) pass.new }
     ensures durable { OnOk result
         (IsDurable D.state turn.entry.value (added_by pieces.now) pass.new) }
-    ensures counted { IfErr result (λ f.
-        IsFaultIn D.state turn.entry.value (added_by pieces.now) f pass.new) }
+    ensures counted { IfErr result (λ f. IsFaultIn D.state f pass.new) }
 {
     let mut turn = turn;
-    let answer = turn.value.append_pieces(pieces);
     turn.value.facts();
+    let answer = turn.value.append_pieces(pieces);
     turn.put(pass);
     answer
 }

@@ -64,17 +64,16 @@ impl<'d, 'b, D: Disk> Prepared<'d, 'b, D> {
         ensures added { OnOk result (HasGrown (told_as (state_by D.state self.entry.turn.value)
             (added_by self.entry.pieces.items)) pass.old pass.new) }
         ensures runs { OnOk result (self.entry.turn.value.stopped ≡ None) }
-        ensures halted { OnErr result (HasGrownSome (added_by self.entry.pieces.items)
+        ensures halted { IfErr result (λ f. HasGrownSome f.now (added_by self.entry.pieces.items)
             (state_by D.state self.entry.turn.value) pass.old pass.new) }
         ensures fault { IfErr result (λ f. IsFaultOf D.state f pass.old) }
 
-        // the store that was put back
+        // the store that was put back, and what may be in the lock then
         ensures moments { HasPutBack D.state self.entry.turn.value
             (added_by self.entry.pieces.items) pass.new }
         ensures durable { OnOk result (IsDurable D.state self.entry.turn.value
             (added_by self.entry.pieces.items) pass.new) }
-        ensures counted { IfErr result (λ f. IsFaultIn D.state self.entry.turn.value
-            (added_by self.entry.pieces.items) f pass.new) }
+        ensures counted { IfErr result (λ f. IsFaultIn D.state f pass.new) }
     {
         let Prepared {
             turn,

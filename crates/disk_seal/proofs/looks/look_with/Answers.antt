@@ -1,11 +1,19 @@
 use Rattle.std.proofs.Common.{◌∙◌}
-use Rattle.disk_seal.proofs.LookedLemmas.{may_look, marks_by, has_turned, records_told, counted_by, counted_told, has_next, has_none, has_halted}
+use Rattle.disk_seal.proofs.LookedLemmas.{may_look, marks_by, marks_added, has_turned, records_told, counted_by, counted_told, has_next, has_none, has_halted}
 use Rattle.disk_seal.proofs.looks.look_with.Goals as goal
 
 pub next_after-answer-requires : goal.next_after-answer-requires
 next_after-answer-requires g c =
     let take = c.take-turn.ensures in
     record { gate = may_look g.D.Disk.state c.args.pass.now c.take-turn.new.self c.take-turn.result.value c.facts.ensures take.still take.seen take.entries take.fixed c.args.at c.requires.gate }
+
+pub put-requires-clause-adds : goal.put-requires-clause-adds
+put-requires-clause-adds g c =
+    let take = c.take-turn.ensures in
+    let look = c.next_after-answer.ensures in
+    let marks = marks_by g.D.Disk.state c.args.pass.now c.take-turn.new.self c.take-turn.result.value c.facts.ensures take.still take.seen take.entries take.fixed c.next_after-answer.new.self look.stays
+    c.args.at c.next_after-answer.result look.runs look.fault look.damaged look.memory in
+    marks_added g.D.Disk.state c.args.pass.now c.take-turn.new.self c.take-turn.result.value c.facts.ensures take.still take.seen take.entries take.fixed c.next_after-answer.new.self look.stays marks
 
 pub returns-in-Ok-clause-records : goal.returns-in-Ok-clause-records
 returns-in-Ok-clause-records g c =

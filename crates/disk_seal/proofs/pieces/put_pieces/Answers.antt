@@ -1,6 +1,7 @@
-use Rattle.disk_seal.specs.Pieces.{size_of}
+use Rattle.disk_seal.specs.Pieces.{size_of, added_by}
 use Rattle.std.proofs.lemmas.Result.{IfErr-weaker}
-use Rattle.disk_seal.proofs.SealLemmas.{put_adds, grown_some, put_back, durable, fault_in, fault_of}
+use Rattle.disk_seal.proofs.DurableLemmas.{durable_by, fault_by}
+use Rattle.disk_seal.proofs.SealLemmas.{put_adds, grown_all, grown_some, put_back, fault_of}
 use Rattle.disk_seal.proofs.pieces.put_pieces.Goals as goal
 
 pub put-requires-clause-adds : goal.put-requires-clause-adds
@@ -11,7 +12,7 @@ put-requires-clause-adds g c =
 pub returns-clause-halted : goal.returns-clause-halted
 returns-clause-halted g c =
     grown_some g.D.Disk.state c.args.turn.value c.append_pieces-answer.new.self c.args.pass.now c.put.new.pass c.args.pieces.now c.append_pieces-answer.result (size_of c.args.pieces.now) c.requires c.put.ensures.still
-    c.put.ensures.ready c.put.ensures.seen c.put.ensures.own c.append_pieces-answer.ensures.halted
+    c.put.ensures.ready c.put.ensures.seen c.put.ensures.own c.append_pieces-answer.ensures.rests c.append_pieces-answer.ensures.halted c.append_pieces-answer.ensures.fault
 
 pub returns-clause-moments : goal.returns-clause-moments
 returns-clause-moments g c =
@@ -20,13 +21,15 @@ returns-clause-moments g c =
 
 pub returns-clause-durable : goal.returns-clause-durable
 returns-clause-durable g c =
-    durable g.D.Disk.state c.args.turn.value c.append_pieces-answer.new.self c.args.pass.now c.put.new.pass c.args.pieces.now c.append_pieces-answer.result (size_of c.args.pieces.now) c.requires c.put.ensures.still
-    c.put.ensures.ready c.put.ensures.seen c.put.ensures.own c.append_pieces-answer.ensures.stays c.append_pieces-answer.ensures.moments c.append_pieces-answer.ensures.rests c.facts.ensures c.append_pieces-answer.ensures.added
+    durable_by g.D.Disk.state c.args.turn.value c.args.pass.now c.put.new.pass c.requires.hand (added_by c.args.pieces.now) c.append_pieces-answer.result c.facts.ensures c.append_pieces-answer.ensures.runs
+    (grown_all g.D.Disk.state c.args.turn.value c.append_pieces-answer.new.self c.args.pass.now c.put.new.pass c.args.pieces.now c.append_pieces-answer.result (size_of c.args.pieces.now) c.requires c.put.ensures.still
+    c.put.ensures.ready c.put.ensures.seen c.put.ensures.own c.append_pieces-answer.ensures.added)
 
 pub returns-clause-counted : goal.returns-clause-counted
 returns-clause-counted g c =
-    fault_in g.D.Disk.state c.args.turn.value c.append_pieces-answer.new.self c.args.pass.now c.put.new.pass c.args.pieces.now c.append_pieces-answer.result (size_of c.args.pieces.now) c.requires c.put.ensures.still
-    c.put.ensures.ready c.put.ensures.seen c.put.ensures.own c.append_pieces-answer.ensures.stays c.append_pieces-answer.ensures.moments c.append_pieces-answer.ensures.rests c.append_pieces-answer.ensures.halted c.append_pieces-answer.ensures.fault
+    fault_by g.D.Disk.state c.args.turn.value c.args.pass.now c.put.new.pass c.requires.hand (added_by c.args.pieces.now) c.append_pieces-answer.result
+    (grown_some g.D.Disk.state c.args.turn.value c.append_pieces-answer.new.self c.args.pass.now c.put.new.pass c.args.pieces.now c.append_pieces-answer.result (size_of c.args.pieces.now) c.requires c.put.ensures.still
+    c.put.ensures.ready c.put.ensures.seen c.put.ensures.own c.append_pieces-answer.ensures.rests c.append_pieces-answer.ensures.halted c.append_pieces-answer.ensures.fault)
 
 pub returns-clause-fault : goal.returns-clause-fault
 returns-clause-fault g c =
