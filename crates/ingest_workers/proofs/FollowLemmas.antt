@@ -41,13 +41,13 @@ length_both : (xs ys : List StoreEntry) → journal_length (xs ++ ys) ≡ journa
 length_both [] ys = omega arith
 length_both (Entry e ∷ xs) ys = omega (arith, length_both xs ys)
 length_both (Blank ∷ xs) ys = omega (arith, length_both xs ys)
-length_both (Stopped ∷ xs) ys = length_both xs ys
+length_both (Stopped n ∷ xs) ys = length_both xs ys
 
 no_shorter : (xs ys : List StoreEntry) → IsPrefix xs ys → journal_length xs ≤ journal_length ys
 no_shorter xs ys on = let whole : journal_length (xs ++ on.0) ≡ journal_length ys = ap journal_length on.1 in omega (arith, whole, length_both xs on.0)
 
 marked_on : (xs ys : List StoreEntry) → IsPrefix xs ys → IsMarked xs → IsMarked ys
-marked_on xs ys on marked = (marked.0, prefix_trans (marked.0 ++ Stopped ∷ []) xs ys marked.1 on)
+marked_on xs ys on marked = (marked.0, (marked.1.0, prefix_trans (marked.1.0 ++ Stopped marked.0 ∷ []) xs ys marked.1.1 on))
 
 module _ {F : Type 0} (f : Follower F) (h : Header) where
   pub stands_longer : (es more : List JournalEntry) → StandsOn f h es → StandsOn f h (es ++ more)
@@ -139,7 +139,7 @@ module _ {F D : Type 0} {d : DiskGhosts D} where
   })
 
   pub went_beside : (f g : Follower F) (before after : Journal D d) (types words : BookPass) (t w : ℕ) (o store : StoreView D) → o ≡ opened_over before types words t w → WasBesideOver d.state f g o store → IsJournalOf store after
-      → ((front : List StoreEntry) → IsPrefix (front ++ Stopped ∷ []) (list_of d.state store) → Rose (state_of before).disk.faults (state_of after).disk.faults) → WentBeside f g before after
+      → ((now : ℕ) (front : List StoreEntry) → IsPrefix (front ++ Stopped now ∷ []) (list_of d.state store) → Rose (state_of before).disk.faults (state_of after).disk.faults) → WentBeside f g before after
   went_beside f g before after types words t w o store is was back rose = at_opening (subst (λ (x : StoreView D). WasBesideOver d.state f g x store) is was)
     where
       long : journal_length (list_of d.state store) ≡ after.count
@@ -155,7 +155,7 @@ module _ {F D : Type 0} {d : DiskGhosts D} where
         more = b.more;
         within = subst (λ (n : ℕ). g.first + g.handled ≤ n) long b.within;
         stands = subst (λ (l : List JournalEntry). IfTold (is_some (d.state before.disk.now).seen) (StandsOn g before.header l)) now b.stands;
-        halted = λ halts. let mark = b.marked halts in rose mark.0 mark.1;
+        halted = λ halts. let mark = b.marked halts in rose mark.0 mark.1.0 mark.1.1;
         through = λ runs. b.through runs ∙ long;
       }
 

@@ -28,12 +28,13 @@ use Rattle.archive_meaning.specs.declared.entry.JournalEntry.TheVariants.{Files,
 use Rattle.disk_seal.specs.declared.entry.StoreEntry.{StoreEntry}
 use Rattle.disk_seal.specs.declared.entry.StoreEntry.TheVariants.{Entry, Blank, Stopped}
 use Rattle.disk_seal.specs.declared.fixed.StoreFixed.{StoreFixed}
-use Rattle.disk_seal.specs.Told.{IfTold, journal_in, recorded, blanks, mark}
+use Rattle.disk_seal.specs.Told.{IfTold, journal_in, recorded, blanks, mark, IsMark}
 use Rattle.disk_seal.specs.View.{StoreView, StoreState, journal_state, state_by, journal_of, Kept, KnowsBook}
 use Rattle.disk_seal.specs.Opening.{MayOpen}
 use Rattle.disk_seal.specs.Fixed.{fixed_of, KeeperPass}
 use Rattle.disk_seal.specs.May.{MayAdd}
 use Rattle.disk_seal.specs.Draft.{journal_seen}
+use Rattle.disk_seal.proofs.MarkLemmas.{stopped_by}
 use Rattle.disk_seal.proofs.ToldLemmas.{told_map}
 use Rattle.ingest_workers.specs.declared.job.Job.{Job}
 use Rattle.ingest_workers.specs.declared.worker.Plan.{Plan}
@@ -95,13 +96,18 @@ picked_seen : (n : ℕ) (es : List StoreEntry) → filter_map (file_segment n) e
 picked_seen n [] = refl
 picked_seen n (Entry e ∷ es) = ap (cons_option (in_file n e)) (picked_seen n es)
 picked_seen n (Blank ∷ es) = picked_seen n es
-picked_seen n (Stopped ∷ es) = picked_seen n es
+picked_seen n (Stopped now ∷ es) = picked_seen n es
 
 -- a store's entry is told of by what holds of the journal's entry in it
 abbrev OfEntry : (JournalEntry → Type 0) → StoreEntry → Type 0
 OfEntry P (Entry e) = P e
 OfEntry P Blank = Unit {0}
-OfEntry P Stopped = Unit {0}
+OfEntry P (Stopped now) = Unit {0}
+
+of_mark : (P : JournalEntry → Type 0) (x : StoreEntry) → IsMark x → OfEntry P x
+of_mark P (Entry e) is = absurd is
+of_mark P Blank is = tt
+of_mark P (Stopped now) is = tt
 
 -- an entry that stands in the journal stands in the list
 seen_from : (P : JournalEntry → Type 0) (es : List StoreEntry) → ((i : ℕ) (x : StoreEntry) → slice_get es i ≡ Some x → OfEntry P x) → (i : ℕ) (e : JournalEntry) → slice_get (journal_seen es) i ≡ Some e → P e
@@ -109,7 +115,7 @@ seen_from P [] f i e at = absurd (cc (at))
 seen_from P (Entry x ∷ es) f zero e at = let same : x ≡ e = cc (at) in subst P same (f 0 (Entry x) refl)
 seen_from P (Entry x ∷ es) f (suc i) e at = seen_from P es (λ n y is. f (suc n) y is) i e at
 seen_from P (Blank ∷ es) f i e at = seen_from P es (λ n y is. f (suc n) y is) i e at
-seen_from P (Stopped ∷ es) f i e at = seen_from P es (λ n y is. f (suc n) y is) i e at
+seen_from P (Stopped now ∷ es) f i e at = seen_from P es (λ n y is. f (suc n) y is) i e at
 
 module _ {S : Type 0} where
   -- an entry that a pass of one of the jobs may add
@@ -119,7 +125,7 @@ module _ {S : Type 0} where
   of_jobs js i job n (Entry (Words first texts)) at file may = tt
   of_jobs js i job n (Entry (Segment s)) at file may = (i, job, at, file ∙ sym may)
   of_jobs js i job n Blank at file may = tt
-  of_jobs js i job n Stopped at file may = tt
+  of_jobs js i job n (Stopped now) at file may = tt
 
 -- a store is stopped only where the count of faults rose
 not_stopped : (s : StoreState) → Kept s → ¬ Rose s.opened.faults s.disk.faults → s.stopped ≡ None
@@ -222,7 +228,7 @@ module _ {S D : Type 0} {d : DiskGhosts D} (left name : S → Option (List ℕ))
         each k x at = let here : slice_get (list_of d.state store) (length (list_of d.state opened) + k) ≡ Some x
             = ap (λ l. slice_get l (length (list_of d.state opened) + k)) (sym h.front.1) ∙ (at_right (list_of d.state opened) h.front.0 k ∙ (ap (λ l. slice_get l k) (sym behind) ∙ at)) in
             ⊎_elim
-            (λ (is_mark : x ≡ Stopped). subst (λ (y : StoreEntry). OfEntry (IsOfJobs js) y) (sym is_mark) tt)
+            (λ (is_mark : IsMark x). of_mark (IsOfJobs js) x is_mark)
             (λ (a : AddedByOne MayAdd h.passes' (length (list_of d.state opened) + k) x).
             let counts = h.done.keepers in let even = h.counted in let lt = slice_get_within h.passes' a.place a.pass a.is in let job = there_is js a.place (omega arith) in
             of_jobs js a.place job.0 (number_of a.pass) x job.1 (sym (number_at a.place job.0 a.pass job.1 a.is)) a.allowed)
@@ -246,38 +252,25 @@ module _ {S D : Type 0} {d : DiskGhosts D} (left name : S → Option (List ℕ))
             )
 
     -- a list with the mark is of a store that was stopped
-    marked : (told : Option (List ℕ)) (n : ℕ) (o : Option ℕ) (front : List StoreEntry) → IsPrefix (front ++ Stopped ∷ []) (recorded told n ++ mark o) → (k : ℕ) × (o ≡ Some k)
-    marked told n (Some k) front on = (k, refl)
-    marked told n None front on = absurd (no_mark told n front on.0 (sym (append_assoc front (Stopped ∷ []) on.0) ∙ (on.1 ∙ append-nil (recorded told n))))
-      where
-        not_blank : (n : ℕ) (xs ys : List StoreEntry) → xs ++ Stopped ∷ ys ≡ blanks n → ⊥
-        not_blank zero [] ys is = cc (is)
-        not_blank zero (y ∷ xs) ys is = cc (is)
-        not_blank (suc n) [] ys is = cc (is)
-        not_blank (suc n) (y ∷ xs) ys is = not_blank n xs ys (cc (is))
-
-        not_entry : (es : List JournalEntry) (xs ys : List StoreEntry) → xs ++ Stopped ∷ ys ≡ map Entry es → ⊥
-        not_entry [] [] ys is = cc (is)
-        not_entry [] (y ∷ xs) ys is = cc (is)
-        not_entry (e ∷ es) [] ys is = cc (is)
-        not_entry (e ∷ es) (y ∷ xs) ys is = not_entry es xs ys (cc (is))
-
-        no_mark : (told : Option (List ℕ)) (n : ℕ) (xs ys : List StoreEntry) → xs ++ Stopped ∷ ys ≡ recorded told n → ⊥
-        no_mark None n xs ys is = not_blank n xs ys is
-        no_mark (Some bytes) n xs ys is = not_entry (journal_in (Some bytes) n) xs ys is
+    marked : (now : ℕ) (front : List StoreEntry) → IsPrefix (front ++ Stopped now ∷ []) (list_of d.state store) → store.stopped ≡ Some now
+    marked now front on = stopped_by (state_by d.state store) front on.0 now (sym (append_assoc front (Stopped now ∷ []) on.0) ∙ on.1)
 
     -- so the disk's count of faults rose
-    pub rose_by : Kept (state_by d.state store) → store.opened ≡ before.disk.now → store.disk ≡ after.disk.now → (front : List StoreEntry) → IsPrefix (front ++ Stopped ∷ []) (list_of d.state store)
+    pub rose_by : Kept (state_by d.state store) → store.opened ≡ before.disk.now → store.disk ≡ after.disk.now → (now : ℕ) (front : List StoreEntry) → IsPrefix (front ++ Stopped now ∷ []) (list_of d.state store)
         → Rose (state_of before).disk.faults (state_of after).disk.faults
-    rose_by kept opened_is disk_is front on =
-        let stopped = marked (d.state store.disk).seen store.count store.stopped front on in
-        let fault = kept.fault stopped.0 stopped.1 in
+    rose_by kept opened_is disk_is now front on =
+        let fault = kept.fault now (marked now front on) in
         subst (λ (x : D). Rose (d.state before.disk.now).faults (d.state x).faults) disk_is
         (subst (λ (x : D). Rose (d.state x).faults (d.state store.disk).faults) opened_is
         (⊎_elim
-        (λ (lt : (d.state store.opened).faults < stopped.0). let le = fault.1 in let more : Rose (d.state store.opened).faults (d.state store.disk).faults = inl (omega arith) in more)
-        (λ (most : 2 ^ 64 - 1 ≤ stopped.0). let le = fault.1 in let more : Rose (d.state store.opened).faults (d.state store.disk).faults = inr (omega arith) in more)
+        (λ (lt : (d.state store.opened).faults < now). let le = fault.1 in let more : Rose (d.state store.opened).faults (d.state store.disk).faults = inl (omega arith) in more)
+        (λ (most : 2 ^ 64 - 1 ≤ now). let le = fault.1 in let more : Rose (d.state store.opened).faults (d.state store.disk).faults = inr (omega arith) in more)
         fault.0))
+
+    -- to that of the mark
+    count_by : Kept (state_by d.state store) → store.disk ≡ after.disk.now → (now : ℕ) (front : List StoreEntry) → IsPrefix (front ++ Stopped now ∷ []) (list_of d.state store)
+        → now ≡ (state_of after).disk.faults
+    count_by kept disk_is now front on = (kept.fault now (marked now front on)).1 ∙ ap (λ (x : D). (d.state x).faults) disk_is
 
     -- the journal afterwards has what a pass has seen
     seen_after : (q : KeeperPass D) → IsPrefix (seen q) (list_of d.state store) → IsJournalOf store after → IsPrefix (journal_seen (seen q)) (told_entries (state_of after))
@@ -321,10 +314,11 @@ module _ {S D : Type 0} {d : DiskGhosts D} (left name : S → Option (List ℕ))
                 cause = cause_on (grounds_of d.state plan.rows plan.version (books_in f.after) (left done.source.before) p.0 f.keeper) (grounds_over full (WereKnown books) plan job.file (left done.source.before) before after) log plan.version done.came.covered f.job.outcome.cause
                     (λ ms. full_wider plan.version (IsNextOf plan.version (left done.source.before) ms) (IsNextOf plan.version (left done.source.before) ms) (λ m is. is) (books_in f.after) books known)
                     (room_over first plan i job.file (left done.source.before) (books_in f.after) books p.0 f.keeper o (o.number ∙ sym (new i job at).file_is) (h.seen_on i f.keeper f.keeper_is) back known done.came.covered)
-                    (λ since now has. (
+                    (λ since now has. let on = prefix_trans _ (seen f.keeper) (list_of d.state store) has.mark.1 (h.seen_on i f.keeper f.keeper_is) in (
                       has.fault.opened _ o.about_is,
                       subst (λ n. Rose n (state_of after).disk.faults) (sym (has.fault.opened _ o.about_is))
-                          (rose_by kept (ap (λ (x : StoreFixed D). x.opened) h.fixed) (sym back.disk) has.mark.0 (prefix_trans _ (seen f.keeper) (list_of d.state store) has.mark.1 (h.seen_on i f.keeper f.keeper_is))),
+                          (rose_by kept (ap (λ (x : StoreFixed D). x.opened) h.fixed) (sym back.disk) now has.mark.0 on),
+                      count_by kept (sym back.disk) now has.mark.0 on,
                     ))
                     done.came.caused;
               },
@@ -345,23 +339,7 @@ module _ {S D : Type 0} {d : DiskGhosts D} (left name : S → Option (List ℕ))
     -- a list without the mark is of a store that runs
     unmarked : (told : Option (List ℕ)) (n : ℕ) (o : Option ℕ) → recorded told n ++ mark o ≡ list_of d.state opened → o ≡ None
     unmarked told n None is = refl
-    unmarked told n (Some x) is = absurd (no_mark (d.state before.disk.now).seen before.count (recorded told n) (is ∙ append-nil (recorded (d.state before.disk.now).seen before.count)))
-      where
-        not_blank : (n : ℕ) (xs : List StoreEntry) → xs ++ Stopped ∷ [] ≡ blanks n → ⊥
-        not_blank zero [] is = cc (is)
-        not_blank zero (y ∷ xs) is = cc (is)
-        not_blank (suc n) [] is = cc (is)
-        not_blank (suc n) (y ∷ xs) is = not_blank n xs (cc (is))
-
-        not_entry : (es : List JournalEntry) (xs : List StoreEntry) → xs ++ Stopped ∷ [] ≡ map Entry es → ⊥
-        not_entry [] [] is = cc (is)
-        not_entry [] (y ∷ xs) is = cc (is)
-        not_entry (e ∷ es) [] is = cc (is)
-        not_entry (e ∷ es) (y ∷ xs) is = not_entry es xs (cc (is))
-
-        no_mark : (told : Option (List ℕ)) (n : ℕ) (xs : List StoreEntry) → xs ++ Stopped ∷ [] ≡ recorded told n → ⊥
-        no_mark None n xs is = not_blank n xs is
-        no_mark (Some bytes) n xs is = not_entry (journal_in (Some bytes) n) xs is
+    unmarked told n (Some x) is = absurd (cc (stopped_by (state_by d.state opened) (recorded told n) [] x is))
 
     pub stayed : IsStillStore d.state opened store → IsJournalOf store after → Kept (state_by d.state store) → IsAsItWas before after
     stayed still back kept = inr (

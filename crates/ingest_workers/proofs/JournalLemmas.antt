@@ -43,7 +43,7 @@ pub seen_joined : (xs ys : List StoreEntry) → journal_seen (xs ++ ys) ≡ jour
 seen_joined [] ys = refl
 seen_joined (Entry e ∷ xs) ys = ap (λ l. e ∷ l) (seen_joined xs ys)
 seen_joined (Blank ∷ xs) ys = seen_joined xs ys
-seen_joined (Stopped ∷ xs) ys = seen_joined xs ys
+seen_joined (Stopped n ∷ xs) ys = seen_joined xs ys
 
 pub seen_told : (es : List JournalEntry) → journal_seen (map (entry_for true) es) ≡ es
 seen_told [] = refl

@@ -21,6 +21,7 @@ use Rattle.disk_seal.specs.declared.fixed.StoreFixed.{StoreFixed}
 use Rattle.disk_seal.specs.View.{StoreView, state_by, store_entries}
 use Rattle.disk_seal.specs.Fixed.{fixed_of, KeeperPass}
 use Rattle.disk_seal.specs.May.{MayAdd}
+use Rattle.disk_seal.specs.Told.{IsMark}
 use Rattle.ingest_workers.specs.declared.job.Job.{Job}
 use Rattle.ingest_workers.specs.declared.worker.Worker.{Worker}
 use Rattle.ingest_workers.specs.Journal.{HasAdded}
@@ -51,7 +52,7 @@ adds_alone n k (Entry (Segment s)) may some = by_file (s.file == n) refl some
     by_file true is some = sym may ∙ same_number s.file n is
     by_file false is some = absurd (some refl)
 adds_alone n k Blank may some = absurd (some refl)
-adds_alone n k Stopped may some = absurd (some refl)
+adds_alone n k (Stopped now) may some = absurd (some refl)
 
 -- what a pass added while its job was done
 pub record Did {D : Type 0} (p q : KeeperPass D) : Type 0 where
@@ -59,9 +60,9 @@ pub record Did {D : Type 0} (p q : KeeperPass D) : Type 0 where
   pub added : HasAdded p q more
 
 -- an entry in an own list of marks is a mark
-a_mark : (list : List (ℕ × StoreEntry)) (j : ℕ) (e : StoreEntry) → All (λ (x : ℕ × StoreEntry). x.1 ≡ Stopped) list → StandsIn list j e → e ≡ Stopped
+a_mark : (list : List (ℕ × StoreEntry)) (j : ℕ) (e : StoreEntry) → All (λ (x : ℕ × StoreEntry). IsMark x.1) list → StandsIn list j e → IsMark e
 a_mark list j e marks s = let at = get_or_from_slice_get list s.0 (j, e) (j, e) s.1 in let is = marks s.0 (j, e) (slice_get_within list s.0 (j, e) s.1) in
-    subst (λ (x : ℕ × StoreEntry). x.1 ≡ Stopped) at is
+    subst (λ (x : ℕ × StoreEntry). IsMark x.1) at is
 
 module _ {S D : Type 0} (state : D → DiskState) (left name : S → Option (List ℕ)) (faults : S → ℕ) (ws ws' : List Worker) (js js' : List (Job S)) (ks qs : List (KeeperPass D)) (even : length ks ≡ length js)
     (all : AllDone (DidOnly left) (DidJob state left name faults) ws ws' js js' ks qs) where
@@ -106,7 +107,7 @@ module _ {S D : Type 0} {G : Ghosts (StoreView D) StoreEntry (StoreFixed D)} (st
     seen_on = λ i q at. subst (λ l. IsPrefix (seen q) l) (sym h.entries) (h.done.ended.each i q at).seen_on;
     added = λ j e le at. let one = h.owned opening j e about_end le (subst (λ l. slice_get l j ≡ Some e) h.entries at) in ⊎_elim
         (λ (of : IsOneOf h.done.passes' 0 one.0). inr (by_job j e one.0 of one.2 one.3))
-        (λ (marks : All (λ (x : ℕ × StoreEntry). x.1 ≡ Stopped) (own_by h.end one.0)). inl (a_mark (own_by h.end one.0) j e marks one.3)) (h.done.ended.only one.0 one.1);
+        (λ (marks : All (λ (x : ℕ × StoreEntry). IsMark x.1) (own_by h.end one.0)). inl (a_mark (own_by h.end one.0) j e marks one.3)) (h.done.ended.only one.0 one.1);
   }
     where
       opening : About (StoreFixed D)

@@ -10,16 +10,16 @@ use Rattle.ingest_fork.specs.Passes.{AreStill, Fresh, HasEnded, IsOneOf, Joined}
 use Rattle.ingest_fork.proofs.PassLemmas.{Joins}
 use Rattle.ingest_fork.proofs.PlaceLemmas.{there_is}
 use Rattle.disk_seal.specs.declared.entry.StoreEntry.{StoreEntry}
-use Rattle.disk_seal.specs.declared.entry.StoreEntry.TheVariants.{Stopped}
 use Rattle.disk_seal.specs.declared.fixed.StoreFixed.{StoreFixed}
 use Rattle.disk_seal.specs.View.{StoreView}
 use Rattle.disk_seal.specs.Fixed.{KeeperPass}
 use Rattle.disk_seal.specs.Looked.{HasTurned}
+use Rattle.disk_seal.specs.Told.{IsMark}
 use Rattle.ingest_workers.specs.Locked.{HasEndedWith, KeeperMaker}
 
 -- an own list that has marks alone
 abbrev AreMarks : List (ℕ × StoreEntry) → Type 0
-AreMarks list = All (λ (x : ℕ × StoreEntry). x.1 ≡ Stopped) list
+AreMarks list = All (λ (x : ℕ × StoreEntry). IsMark x.1) list
 
 marks_of : {D : Type 0} (x y : KeeperPass D) (list : List (ℕ × StoreEntry)) → HasTurned x y → own_list x ≡ [] → list ≡ own_list y → AreMarks list
 marks_of x y list t none is = subst (λ (l : List (ℕ × StoreEntry)). AreMarks l) (sym (is ∙ (t.own ∙ ap (λ (l : List (ℕ × StoreEntry)). l ++ t.marks) none))) t.only

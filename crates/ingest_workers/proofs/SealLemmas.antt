@@ -68,8 +68,8 @@ behind_places : (n k : ℕ) (es : List StoreEntry) → n ≤ k → All (λ (x : 
 behind_places n k [] le = All-nil (λ (x : ℕ × StoreEntry). n ≤ x.0)
 behind_places n k (e ∷ es) le = All-cons (λ (x : ℕ × StoreEntry). n ≤ x.0) (k, e) (places (k + 1) es) le (behind_places n (k + 1) es (omega (arith, le)))
 
-seen_marked : (es : List JournalEntry) → journal_seen (map (entry_for true) es ++ Stopped ∷ []) ≡ es
-seen_marked es = seen_joined (map (entry_for true) es) (Stopped ∷ []) ∙ (append-nil _ ∙ seen_told es)
+seen_marked : (es : List JournalEntry) (now : ℕ) → journal_seen (map (entry_for true) es ++ Stopped now ∷ []) ≡ es
+seen_marked es now = seen_joined (map (entry_for true) es) (Stopped now ∷ []) ∙ (append-nil _ ∙ seen_told es)
 
 -- ---- the namer
 
@@ -137,8 +137,8 @@ module _ {D : Type 0} (state : D → DiskState) where
       told_all : journal_seen (told_as s es) ≡ es
       told_all = ap (λ b. journal_seen (map (entry_for b) es)) told_here ∙ seen_told es
 
-      told_some : (k : ℕ) → journal_seen (told_as s (take k es) ++ Stopped ∷ []) ≡ take k es
-      told_some k = ap (λ b. journal_seen (map (entry_for b) (take k es) ++ Stopped ∷ [])) told_here ∙ seen_marked (take k es)
+      told_some : (k now : ℕ) → journal_seen (told_as s (take k es) ++ Stopped now ∷ []) ≡ take k es
+      told_some k now = ap (λ b. journal_seen (map (entry_for b) (take k es) ++ Stopped now ∷ [])) told_here ∙ seen_marked (take k es) now
 
       last_one : v.stopped ≡ None → IsTextsThen (segment_of d) es
       last_one runs = of_told (tells s) (IsTextsThen (segment_of d) es) told_here (prep.last runs)
@@ -146,8 +146,8 @@ module _ {D : Type 0} (state : D → DiskState) where
       one_sealed : v.stopped ≡ None → sealed_by (places (length (seen q)) (told_as s es)) ≡ segment_of d ∷ []
       one_sealed runs = sealed_of (told_as s es) ∙ (ap segments_in told_all ∙ segments_sealed (segment_of d) es (last_one runs))
 
-      none_sealed : (k : ℕ) → k < length es → v.stopped ≡ None → sealed_by (places (length (seen q)) (told_as s (take k es) ++ Stopped ∷ [])) ≡ []
-      none_sealed k below runs = sealed_of (told_as s (take k es) ++ Stopped ∷ []) ∙ (ap segments_in (told_some k) ∙ no_segments (segment_of d) es k (last_one runs) below)
+      none_sealed : (k now : ℕ) → k < length es → v.stopped ≡ None → sealed_by (places (length (seen q)) (told_as s (take k es) ++ Stopped now ∷ [])) ≡ []
+      none_sealed k now below runs = sealed_of (told_as s (take k es) ++ Stopped now ∷ []) ∙ (ap segments_in (told_some k now) ∙ no_segments (segment_of d) es k (last_one runs) below)
 
       -- the journal before, and then
       was : journal_seen (seen q) ≡ journal_of s
@@ -174,41 +174,40 @@ module _ {D : Type 0} (state : D → DiskState) where
       segments = λ a is. if_told (is_some (state a.fixed.opened).seen) _ (λ told. one_sealed a is told runs);
     }
 
-    pub halted : HasGrownSome es s q r → HasNotSealed state p r
-    halted some =
+    pub halted : (now : ℕ) → HasGrownSome now es s q r → HasNotSealed state p r
+    halted now some =
         ⊎_elim
-        (λ (was : (s.stopped ≢ None) × HasGrown [] q r).
+        (λ (was : (s.stopped ≡ Some now) × HasGrown [] q r).
         let none : HasNotSealed state p r = record {
           more = [];
           added = has_added [] was.1;
           segments = λ a is. if_told (is_some (state a.fixed.opened).seen) _ (λ told. refl);
         } in none)
-        (λ (one : (s.stopped ≡ None) × ((k : ℕ) × (k < length es) × HasGrown (told_as s (take k es) ++ Stopped ∷ []) q r)).
+        (λ (one : (s.stopped ≡ None) × ((k : ℕ) × (k < length es) × HasGrown (told_as s (take k es) ++ Stopped now ∷ []) q r)).
         let part : HasNotSealed state p r = record {
-          more = places (length (seen q)) (told_as s (take one.1.0 es) ++ Stopped ∷ []);
-          added = has_added (told_as s (take one.1.0 es) ++ Stopped ∷ []) one.1.2;
-          segments = λ a is. if_told (is_some (state a.fixed.opened).seen) _ (λ told. none_sealed a is told one.1.0 one.1.1 one.0);
+          more = places (length (seen q)) (told_as s (take one.1.0 es) ++ Stopped now ∷ []);
+          added = has_added (told_as s (take one.1.0 es) ++ Stopped now ∷ []) one.1.2;
+          segments = λ a is. if_told (is_some (state a.fixed.opened).seen) _ (λ told. none_sealed a is told one.1.0 now one.1.1 one.0);
         } in part)
         some
 
-    mark_in : (o : Option ℕ) → o ≢ None → (xs l : List StoreEntry) → xs ++ mark o ≡ l → (front : List StoreEntry) × IsPrefix (front ++ Stopped ∷ []) l
-    mark_in None some xs l is = absurd (some refl)
-    mark_in (Some n) some xs l is = (xs, ([], append-nil (xs ++ Stopped ∷ []) ∙ is))
+    mark_in : (o : Option ℕ) (now : ℕ) → o ≡ Some now → (xs l : List StoreEntry) → xs ++ mark o ≡ l → (front : List StoreEntry) × IsPrefix (front ++ Stopped now ∷ []) l
+    mark_in o now stopped xs l is = (xs, ([], append-nil (xs ++ Stopped now ∷ []) ∙ (ap (λ x. xs ++ mark x) (sym stopped) ∙ is)))
 
-    has_mark : HasGrownSome es s q r → HasSeenMark r
-    has_mark some =
+    has_mark : (now : ℕ) → HasGrownSome now es s q r → HasSeenMark now r
+    has_mark now some =
         ⊎_elim
-        (λ (was : (s.stopped ≢ None) × HasGrown [] q r).
-        mark_in s.stopped was.0 (recorded s.disk.seen s.count) (seen r) (prep.may.hand.entries ∙ (sym (append-nil (seen q)) ∙ sym was.1.seen_is)))
-        (λ (one : (s.stopped ≡ None) × ((k : ℕ) × (k < length es) × HasGrown (told_as s (take k es) ++ Stopped ∷ []) q r)).
+        (λ (was : (s.stopped ≡ Some now) × HasGrown [] q r).
+        mark_in s.stopped now was.0 (recorded s.disk.seen s.count) (seen r) (prep.may.hand.entries ∙ (sym (append-nil (seen q)) ∙ sym was.1.seen_is)))
+        (λ (one : (s.stopped ≡ None) × ((k : ℕ) × (k < length es) × HasGrown (told_as s (take k es) ++ Stopped now ∷ []) q r)).
         let front = told_as s (take one.1.0 es) in
-        let found : HasSeenMark r = (seen q ++ front, ([], append-nil ((seen q ++ front) ++ Stopped ∷ []) ∙ (append_assoc (seen q) front (Stopped ∷ []) ∙ sym one.1.2.seen_is))) in found)
+        let found : HasSeenMark now r = (seen q ++ front, ([], append-nil ((seen q ++ front) ++ Stopped now ∷ []) ∙ (append_assoc (seen q) front (Stopped now ∷ []) ∙ sym one.1.2.seen_is))) in found)
         some
 
-    pub has_failed : (opened now : ℕ) → IsFaultOf state (record { opened = opened; now = now }) q → HasGrownSome es s q r → HasFailed state p r opened now
+    pub has_failed : (opened now : ℕ) → IsFaultOf state (record { opened = opened; now = now }) q → HasGrownSome now es s q r → HasFailed state p r opened now
     has_failed opened now fault some = record {
       fault = record { opened = λ a is. fault.opened a (prep.still.about_is ∙ is); rose = fault.rose };
-      mark = has_mark some;
+      mark = has_mark now some;
     }
 
     pub now_has : (version : ℕ) (types words : Texts) → d.file ≡ number_of p → IsPrefix types (seen v.types) → IsPrefix words (seen v.words) → v.stopped ≡ None → HasGrown (told_as s es) q r → NowHas state d version types words p r

@@ -55,14 +55,14 @@ HaveMoreThan count version told = IfSome told (λ bytes. (messages : List (List 
 -- ---- the archive
 
 module _ {D : Type 0} where
-  -- the pass has seen the mark of a store that was stopped
-  abbrev pub HasSeenMark : KeeperPass D → Type 0
-  HasSeenMark p = (front : List StoreEntry) × IsPrefix (front ++ Stopped ∷ []) (seen p)
+  -- the pass has seen the mark of a store that was stopped at this count of faults
+  abbrev pub HasSeenMark : ℕ → KeeperPass D → Type 0
+  HasSeenMark now p = (front : List StoreEntry) × IsPrefix (front ++ Stopped now ∷ []) (seen p)
 
-  -- a call of the disk failed since the opening, and the store was stopped
+  -- a call of the disk failed since the opening, and the store was stopped at this count of faults
   pub record HasFailed (state : D → DiskState) (p q : KeeperPass D) (opened now : ℕ) : Type 0 where
     pub fault : IsFaultOf state (record { opened = opened; now = now }) p
-    pub mark : HasSeenMark q
+    pub mark : HasSeenMark now q
 
   -- Why a segment is not sealed, where there was no room as this says. Want of memory is free.
   abbrev pub HasSealCause : (D → DiskState) → (ℕ → ℕ → Type 0) → KeeperPass D → KeeperPass D → Cause → Type 0

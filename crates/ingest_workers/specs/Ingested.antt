@@ -174,13 +174,14 @@ module _ {D : Type 0} {d : DiskGhosts D} where
       (AreFirstOf plan.version bytes) last sealed end need)
 
   -- What causes say of the journal and its disk, of a file with these bytes: when a book is full; what had no room; the disk's
-  -- count of faults rose.
+  -- count of faults rose, from this one to that one.
   abbrev pub grounds_over : (Option (List ℕ) → List (List ℕ) → Which → ℕ → Type 0)
       → (List JournalEntry → Which → List (List ℕ) → Type 0) → Plan → ℕ → Option (List ℕ) → Journal D d → Journal D d → Grounds
   grounds_over full has plan file bytes before after = record {
     full = full bytes;
     no_room = HadNoRoomOver has plan file bytes before after;
-    failed = λ opened now. (opened ≡ (state_of before).disk.faults) × Rose opened (state_of after).disk.faults;
+    failed = λ opened now. (opened ≡ (state_of before).disk.faults) × Rose opened (state_of after).disk.faults
+        × (now ≡ (state_of after).disk.faults);
   }
 
 -- what makers know of the two books

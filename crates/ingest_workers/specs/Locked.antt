@@ -18,6 +18,7 @@ use Rattle.disk_seal.specs.declared.fixed.StoreFixed.{StoreFixed}
 use Rattle.disk_seal.specs.View.{StoreView, state_by, store_entries}
 use Rattle.disk_seal.specs.Fixed.{fixed_of, KeeperPass}
 use Rattle.disk_seal.specs.May.{MayAdd}
+use Rattle.disk_seal.specs.Told.{IsMark}
 use Rattle.ingest_workers.specs.declared.job.Job.{Job}
 use Rattle.ingest_workers.specs.declared.worker.Worker.{Worker}
 use Rattle.ingest_workers.specs.Worker.{IsIdle, MayDo, DidOnly, DidJob}
@@ -29,7 +30,7 @@ KeeperMaker D G = Maker (StoreView D) StoreEntry (StoreFixed D) G
 abbrev pub file_segment : ℕ → StoreEntry → Option SegmentEntry
 file_segment n (Entry e) = in_file n e
 file_segment n Blank = None
-file_segment n Stopped = None
+file_segment n (Stopped now) = None
 
 module _ {D : Type 0} {G : Ghosts (StoreView D) StoreEntry (StoreFixed D)} where
   -- The maker joined every pass that it made: these, and others that added nothing but the mark of a store that is stopped.
@@ -37,7 +38,7 @@ module _ {D : Type 0} {G : Ghosts (StoreView D) StoreEntry (StoreFixed D)} where
     pub about_is : about_by end ≡ about_by m
     pub seen_on : IsPrefix (seen_by m) (seen_by end)
     pub each : (i : ℕ) (p : KeeperPass D) → slice_get ps i ≡ Some p → HasEnded end p
-    pub only : (n : ℕ) → Has (ended_by end) n → IsOneOf ps 0 n ⊎ All (λ x. x.1 ≡ Stopped) (own_by end n)
+    pub only : (n : ℕ) → Has (ended_by end) n → IsOneOf ps 0 n ⊎ All (λ x. IsMark x.1) (own_by end n)
     pub all : HasJoinedAll end
 
 module _ {S D : Type 0} {G : Ghosts (StoreView D) StoreEntry (StoreFixed D)} (state : D → DiskState) where
@@ -115,4 +116,4 @@ module _ {S D : Type 0} (state : D → DiskState) where
         (entries_in (own_list q))
     pub seen_on : (i : ℕ) (q : KeeperPass D) → slice_get passes' i ≡ Some q → IsPrefix (seen q) (list_of state after)
     pub added : (j : ℕ) (e : StoreEntry) → length (list_of state before) ≤ j → slice_get (list_of state after) j ≡ Some e
-        → (e ≡ Stopped) ⊎ AddedByOne MayAdd passes' j e
+        → IsMark e ⊎ AddedByOne MayAdd passes' j e

@@ -31,7 +31,7 @@ returns-in-Err-clause-namer g c =
 
 pub returns-in-Err-clause-refused : goal.returns-in-Err-clause-refused
 returns-in-Err-clause-refused g c =
-    halted g.D.Disk.state c.args.draft.now c.args.keeper.now c.prepare.new.pass c.commit.new.pass c.in-Ok.prepared.turn.value c.in-Ok.prepared.pieces.items c.in-Ok.ensures.prepared c.in-Ok.ensures.kept c.in-Err.ensures.halted
+    halted g.D.Disk.state c.args.draft.now c.args.keeper.now c.prepare.new.pass c.commit.new.pass c.in-Ok.prepared.turn.value c.in-Ok.prepared.pieces.items c.in-Ok.ensures.prepared c.in-Ok.ensures.kept c.in-Err.field-0.now c.in-Err.ensures.halted
 
 pub returns-in-Err-clause-causes : goal.returns-in-Err-clause-causes
 returns-in-Err-clause-causes g c =
