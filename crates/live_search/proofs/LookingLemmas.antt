@@ -23,7 +23,7 @@ use Rattle.live_search.specs.Refused.{from_found}
 
 pub marked_of : {A D : Type 0} (state : D → DiskState) (q : KeeperPass D) (res : Result A FoundRefusal) (r : FoundRefusal) (e : LiveRefusal) → res ≡ Err r → e ≡ from_found r → e ≡ DiskFault
     → ((opened now : ℕ) → IsErrOf res (disk_failed opened now) → HasHalted state (record { opened = opened; now = now }) q) → IsMarked (seen q)
-marked_of state q res (disk_failed opened now) e is from fault halts = (halts opened now is).marked
+marked_of state q res (disk_failed opened now) e is from fault halts = (now, (halts opened now is).marked)
 marked_of state q res (none_found at) e is from fault halts = absurd (cc (from, fault))
 marked_of state q res no_memory e is from fault halts = absurd (cc (from, fault))
 
