@@ -33,6 +33,7 @@ use Rattle.disk_seal.specs.Fixed.{KeeperPass, fixed_of}
 use Rattle.disk_seal.specs.May.{MayAdd}
 use Rattle.disk_seal.specs.Told.{IfTold, blanks, journal_in, mark, recorded}
 use Rattle.disk_seal.specs.View.{Kept, StoreView, journal_of, state_by}
+use Rattle.disk_seal.proofs.MarkLemmas.{stopped_by}
 use Rattle.disk_seal.proofs.ToldLemmas.{told_map, told_both}
 use Rattle.ingest_workers.specs.ClosedStore.{IsJournalOf}
 use Rattle.ingest_workers.specs.Ingested.{IsAsItWas, opened_over, told_entries}
@@ -87,13 +88,13 @@ picked_seen : (n : ℕ) (es : List StoreEntry) → filter_map (file_segment n) e
 picked_seen n [] = refl
 picked_seen n (Entry e ∷ es) = ap (cons_option (in_file n e)) (picked_seen n es)
 picked_seen n (Blank ∷ es) = picked_seen n es
-picked_seen n (Mark ∷ es) = picked_seen n es
+picked_seen n (Mark now ∷ es) = picked_seen n es
 
 -- a store's entry is told of by what holds of the journal's entry in it
 abbrev OfEntry : (JournalEntry → Type 0) → StoreEntry → Type 0
 OfEntry P (Entry e) = P e
 OfEntry P Blank = Unit {0}
-OfEntry P Mark = Unit {0}
+OfEntry P (Mark now) = Unit {0}
 
 -- an entry that stands in the journal stands in the list
 seen_from : (P : JournalEntry → Type 0) (es : List StoreEntry) → ((i : ℕ) (x : StoreEntry) → slice_get es i ≡ Some x → OfEntry P x) → (i : ℕ) (e : JournalEntry) → slice_get (journal_seen es) i ≡ Some e → P e
@@ -101,7 +102,7 @@ seen_from P [] f i e at = absurd (cc (at))
 seen_from P (Entry x ∷ es) f zero e at = let same : x ≡ e = cc (at) in subst P same (f 0 (Entry x) refl)
 seen_from P (Entry x ∷ es) f (suc i) e at = seen_from P es (λ n y is. f (suc n) y is) i e at
 seen_from P (Blank ∷ es) f i e at = seen_from P es (λ n y is. f (suc n) y is) i e at
-seen_from P (Mark ∷ es) f i e at = seen_from P es (λ n y is. f (suc n) y is) i e at
+seen_from P (Mark now ∷ es) f i e at = seen_from P es (λ n y is. f (suc n) y is) i e at
 
 -- an entry that a pass of one of the files may add
 of_files : (js : List Merged) (i : ℕ) (job : Merged) (n : ℕ) (x : StoreEntry) → slice_get js i ≡ Some job → job.file ≡ n → MayAdd n x → OfEntry (IsOfFiles js) x
@@ -110,7 +111,7 @@ of_files js i job n (Entry (Types first texts)) at file may = tt
 of_files js i job n (Entry (Words first texts)) at file may = tt
 of_files js i job n (Entry (Segment s)) at file may = (i, job, at, file ∙ sym may)
 of_files js i job n Blank at file may = tt
-of_files js i job n Mark at file may = tt
+of_files js i job n (Mark now) at file may = tt
 
 same_eq : (a b : ℕ) → a ≡ b → (a == b) ≡ true
 same_eq a b is = grind (arith, nat_tests)
@@ -284,38 +285,25 @@ module _ {D : Type 0} {d : DiskGhosts D} (before : Journal D d) (types_reader wo
   list_now store = seen_list (d.state store.disk).seen store.count store.stopped
 
   -- a list with the mark is of a store that was stopped
-  marked : (told : Option (List ℕ)) (n : ℕ) (o : Option ℕ) (front : List StoreEntry) → IsPrefix (front ++ Mark ∷ []) (recorded told n ++ mark o) → (k : ℕ) × (o ≡ Some k)
-  marked told n (Some k) front on = (k, refl)
-  marked told n None front on = absurd (no_mark told n front on.0 (sym (append_assoc front (Mark ∷ []) on.0) ∙ (on.1 ∙ append-nil (recorded told n))))
-    where
-      not_blank : (n : ℕ) (xs ys : List StoreEntry) → xs ++ Mark ∷ ys ≡ blanks n → ⊥
-      not_blank zero [] ys is = cc (is)
-      not_blank zero (y ∷ xs) ys is = cc (is)
-      not_blank (suc n) [] ys is = cc (is)
-      not_blank (suc n) (y ∷ xs) ys is = not_blank n xs ys (cc (is))
-
-      not_entry : (es : List JournalEntry) (xs ys : List StoreEntry) → xs ++ Mark ∷ ys ≡ map Entry es → ⊥
-      not_entry [] [] ys is = cc (is)
-      not_entry [] (y ∷ xs) ys is = cc (is)
-      not_entry (e ∷ es) [] ys is = cc (is)
-      not_entry (e ∷ es) (y ∷ xs) ys is = not_entry es xs ys (cc (is))
-
-      no_mark : (told : Option (List ℕ)) (n : ℕ) (xs ys : List StoreEntry) → xs ++ Mark ∷ ys ≡ recorded told n → ⊥
-      no_mark None n xs ys is = not_blank n xs ys is
-      no_mark (Some bytes) n xs ys is = not_entry (journal_in (Some bytes) n) xs ys is
+  marked : (store : StoreView D) (now : ℕ) (front : List StoreEntry) → IsPrefix (front ++ Mark now ∷ []) (list_of d.state store) → store.stopped ≡ Some now
+  marked store now front on = stopped_by (state_by d.state store) front on.0 now (sym (append_assoc front (Mark now ∷ []) on.0) ∙ on.1)
 
   -- so the disk's count of faults rose
-  rose_by : (after : Journal D d) (store : StoreView D) → Kept (state_by d.state store) → store.opened ≡ before.disk.now → store.disk ≡ after.disk.now → (front : List StoreEntry) → IsPrefix (front ++ Mark ∷ []) (list_of d.state store)
+  rose_by : (after : Journal D d) (store : StoreView D) → Kept (state_by d.state store) → store.opened ≡ before.disk.now → store.disk ≡ after.disk.now → (now : ℕ) (front : List StoreEntry) → IsPrefix (front ++ Mark now ∷ []) (list_of d.state store)
       → Rose (state_of before).disk.faults (state_of after).disk.faults
-  rose_by after store kept opened_is disk_is front on =
-      let stopped = marked (d.state store.disk).seen store.count store.stopped front on in
-      let fault = kept.fault stopped.0 stopped.1 in
+  rose_by after store kept opened_is disk_is now front on =
+      let fault = kept.fault now (marked store now front on) in
       subst (λ (x : D). Rose (d.state before.disk.now).faults (d.state x).faults) disk_is
       (subst (λ (x : D). Rose (d.state x).faults (d.state store.disk).faults) opened_is
       (⊎_elim
-      (λ (lt : (d.state store.opened).faults < stopped.0). let le = fault.1 in let more : Rose (d.state store.opened).faults (d.state store.disk).faults = inl (omega arith) in more)
-      (λ (most : 2 ^ 64 - 1 ≤ stopped.0). let le = fault.1 in let more : Rose (d.state store.opened).faults (d.state store.disk).faults = inr (omega arith) in more)
+      (λ (lt : (d.state store.opened).faults < now). let le = fault.1 in let more : Rose (d.state store.opened).faults (d.state store.disk).faults = inl (omega arith) in more)
+      (λ (most : 2 ^ 64 - 1 ≤ now). let le = fault.1 in let more : Rose (d.state store.opened).faults (d.state store.disk).faults = inr (omega arith) in more)
       fault.0))
+
+  -- to that of the mark
+  count_by : (after : Journal D d) (store : StoreView D) → Kept (state_by d.state store) → store.disk ≡ after.disk.now → (now : ℕ) (front : List StoreEntry) → IsPrefix (front ++ Mark now ∷ []) (list_of d.state store)
+      → now ≡ (state_of after).disk.faults
+  count_by after store kept disk_is now front on = (kept.fault now (marked store now front on)).1 ∙ ap (λ (x : D). (d.state x).faults) disk_is
 
   pub as_it_was : (after : Journal D d) (store : StoreView D) (o : StoreView D) → o ≡ opened → IsStillStore d.state o store → IsJournalOf store after → Kept (state_by d.state store) → IsAsItWas before after
   as_it_was after store o is still back kept = stayed_by (λ (s : Unit {0}). None) (λ s. None) (λ s. 0) before after types_reader words_reader t u store o is still back kept
@@ -604,10 +592,11 @@ module _ {M E D : Type 0} {N : NamesGhosts M} {H : DiskGhosts E} {d : DiskGhosts
             needs = needs;
           }) (has.full.ends _ o.about_is) (has.full.needs _ o.about_is),
     )
-    cause_of books file done i places p q b are o number since on back kept more (FirstFault was now) damaged has = (
+    cause_of books file done i places p q b are o number since on back kept more (FirstFault was now) damaged has = let marked = prefix_trans _ (seen q) (list_of d.state store) has.mark.1 on in (
       has.fault.opened _ o.about_is,
       subst (λ n. Rose n (state_of after).disk.faults) (sym (has.fault.opened _ o.about_is))
-          (rose_by before types_reader words_reader t u after store kept (ap (λ (x : StoreFixed D). x.opened) h.fixed) (sym back.disk) has.mark.0 (prefix_trans _ (seen q) (list_of d.state store) has.mark.1 on)),
+          (rose_by before types_reader words_reader t u after store kept (ap (λ (x : StoreFixed D). x.opened) h.fixed) (sym back.disk) now has.mark.0 marked),
+      count_by before types_reader words_reader t u after store kept (sym back.disk) now has.mark.0 marked,
     )
     cause_of books file done i places p q b are o number since on back kept more SecondFault damaged has = tt
     cause_of books file done i places p q b are o number since on back kept more SecondDamaged damaged has = damaged refl

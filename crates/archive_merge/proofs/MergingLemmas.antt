@@ -499,7 +499,7 @@ module _ {D : Type 0} {d : DiskGhosts D} (lawful : (x : D) → IsLawful (d.state
           subst (λ h. h.length_limit < end + need) has.header is.0,
           by_told (is_some (state_of before).disk.seen) (λ told. room_on file done end need (of_told (is_some (state_of mid).disk.seen) (has.tells ∙ told) is.1) told),
         )
-        cause_on file done (FirstFault opened now) is = (is.0 ∙ has.steady, is.1)
+        cause_on file done (FirstFault opened now) is = (is.0 ∙ has.steady, is.1, is.2)
         cause_on file done SecondDamaged is = is
         cause_on file done SecondFault is = is
         cause_on file done CauseOutOfMemory is = is

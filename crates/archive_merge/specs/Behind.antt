@@ -183,7 +183,7 @@ module _ {D : Type 0} {d : DiskGhosts D} where
 
   -- Why not all of this file was moved, which has so many messages: by this a book is full at so many texts; so many bytes behind
   -- an end go past the header's limit, by the next segment of the file, where this holds of a book's texts; the first disk's count
-  -- of faults rose; the second archive's segments of the file are no run with texts that dictionaries may hold. Want of memory is
+  -- of faults rose, to this one; the second archive's segments of the file are no run with texts that dictionaries may hold. Want of memory is
   -- free.
   abbrev pub HasStopCause : (Which → ℕ → Type 0) → (List JournalEntry → Which → List (List ℕ) → Type 0) → SecondView → ℕ → ℕ
       → ℕ → Journal D d → Journal D d → MergeCause → Type 0
@@ -192,7 +192,7 @@ module _ {D : Type 0} {d : DiskGhosts D} where
       (before.header.length_limit < end + need)
       × IfTold (is_some (state_of before).disk.seen) (LackedRoom has s first file done before after end need)
   HasStopCause full has s first file done before after (FirstFault opened now) =
-      (opened ≡ (state_of before).disk.faults) × Rose opened (state_of after).disk.faults
+      (opened ≡ (state_of before).disk.faults) × Rose opened (state_of after).disk.faults × (now ≡ (state_of after).disk.faults)
   HasStopCause full has s first file done before after SecondDamaged =
       All IsFairType s.texts.types → All IsFairWord s.texts.words → (all : SoFar) → ¬ HasRun s (file - first) all
   HasStopCause full has s first file done before after _ = Unit {0}
