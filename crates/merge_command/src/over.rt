@@ -184,7 +184,12 @@ pub(crate) fn add_second<D: Disk, E: Disk, R: Wait>(
     let second_archive: Archive<PlainBooks> = open_second(alloc, second)?;
     let held = holding.files;
     let more = second_archive.files().as_slice().len() as u64;
-    agree(end.header.version, held, second_archive.names().version(), more)?;
+    agree(
+        end.header.version,
+        held,
+        second_archive.names().version(),
+        more,
+    )?;
     let first = held as u32;
     let JournalEnd {
         header,

@@ -5,8 +5,8 @@ use Rattle.merge_command.proofs.merge.add_founded.Goals as goal
 pub invariant_of-founded : goal.invariant_of-founded
 invariant_of-founded g c = record { same = c.requires.lent; told = c.requires.told }
 
-pub add_second-answer-requires-clause-held : goal.add_second-answer-requires-clause-held
-add_second-answer-requires-clause-held g c κs within = λ name. c.requires.held name
+pub add_second-answer-requires : goal.add_second-answer-requires
+add_second-answer-requires g c = record { held = λ name. c.requires.held name }
 
 pub returns-clause-behind : goal.returns-clause-behind
 returns-clause-behind g c =

@@ -109,13 +109,13 @@ returns-in_err-archive-clause-goes_on g c =
 -- ---- behind the opening
 
 pub add_founded-answer-requires-clause-lent : goal.add_founded-answer-requires-clause-lent
-add_founded-answer-requires-clause-lent g c κs within = refl
+add_founded-answer-requires-clause-lent g c = refl
 
 pub add_founded-answer-requires-clause-told : goal.add_founded-answer-requires-clause-told
-add_founded-answer-requires-clause-told g c κs within = refl
+add_founded-answer-requires-clause-told g c = refl
 
 pub add_founded-answer-requires-clause-held : goal.add_founded-answer-requires-clause-held
-add_founded-answer-requires-clause-held g c κs within = λ name.
+add_founded-answer-requires-clause-held g c = λ name.
     let opened = c.open_for_append.ensures in
     let same = sym c.begin-journal.ensures.disk in
     let any : OpensAny (state_of c.begin-journal.result) (state_of c.open_for_append.new.journal) _ = record {

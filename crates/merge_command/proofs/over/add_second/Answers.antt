@@ -67,11 +67,10 @@ returns-in_err-agree-clause-second g c =
 
 pub merge_opened-left-requires-clause-begin : goal.merge_opened-left-requires-clause-begin
 merge_opened-left-requires-clause-begin g c =
-    let held = c.requires.held _ in
     record {
       version_is = sym (c.version.ensures ∙ ap (λ (k : Kept). k.version) c.names.ensures) ∙ c.in_ok-agree.ensures.0;
-      opens = held.opens;
-      holds = held.names;
+      opens = (c.requires.held _).opens;
+      holds = (c.requires.held _).names;
       few = omega (arith, c.in_ok-agree.ensures.1, ap length (c.as_slice.ensures ∙ c.files.ensures));
     }
 
@@ -80,7 +79,6 @@ merge_opened-left-requires-clause-books g c = (c.requires.held _).texts
 
 pub returns-clause-came : goal.returns-clause-came
 returns-clause-came g c =
-    let held = c.requires.held _ in
     let second = g.E.Disk.state c.args.second.now in
     let second_mid = g.E.Disk.state c.open_second.new.disk in
     let second_new = g.E.Disk.state c.merge_opened-left.result.disk.now in
@@ -101,11 +99,11 @@ returns-clause-came g c =
     let back_second = c.second-1.given.1 (sym read.lent) in
     subst (λ d. Merges m c.args.holding.files old (g.D.Disk.state d) second (g.E.Disk.state c.second-1.given.0)) (sym back)
     (subst (λ e. Merges m c.args.holding.files old (g.D.Disk.state c.merge_opened-left.result.journal.disk.now) second (g.E.Disk.state e)) (sym back_second)
-    (merges c.segments_go_on.ensures.files c.segments_go_on.ensures.fair c.segments_go_on.ensures.theirs _ c.merge_opened-left.result.journal held.opens
+    (merges c.segments_go_on.ensures.files c.segments_go_on.ensures.fair c.segments_go_on.ensures.theirs _ c.merge_opened-left.result.journal (c.requires.held _).opens
     (view_shown b second_mid.seen) b (subst (λ t. Opens t b) told c.in_ok-second_archive.ensures.opened) (view_told b second_mid.seen)
     (subst (λ t. HasLastGate t b) told c.in_ok-second_archive.ensures.last) c.last_gate.result c.last_gate.ensures
     second second_new told (keeps_on second second_mid second_new c.open_second.ensures.keeps read.rests)
-    c.args.holding.files held.names c.merge_opened-left.new.files.items c.merge_opened-left.result.refusal ends c.merge_opened-left.ensures.none
+    c.args.holding.files (c.requires.held _).names c.merge_opened-left.new.files.items c.merge_opened-left.result.refusal ends c.merge_opened-left.ensures.none
     (λ file is. subst (λ n. Rose n second_new.faults) c.in_ok-second_archive.ensures.steady (read.fault file is))
     (sym (c.version.ensures ∙ ap version c.names.ensures) ∙ c.in_ok-agree.ensures.0)
     (omega (arith, c.in_ok-agree.ensures.1, ap length (c.as_slice.ensures ∙ c.files.ensures)))
@@ -113,7 +111,6 @@ returns-clause-came g c =
 
 pub returns-clause-behind : goal.returns-clause-behind
 returns-clause-behind g c =
-    let held = c.requires.held _ in
     let second = g.E.Disk.state c.args.second.now in
     let second_mid = g.E.Disk.state c.open_second.new.disk in
     let second_new = g.E.Disk.state c.merge_opened-left.result.disk.now in
@@ -130,11 +127,11 @@ returns-clause-behind g c =
     let read = c.merge_opened-left.ensures.second in
     let told = sym c.open_second.ensures.keeps.seen in
     let back = c.disk-1.given.1 (sym ends.merged.goes.name) in
-    let comes = behind c.segments_go_on.ensures.files c.segments_go_on.ensures.fair c.segments_go_on.ensures.theirs _ c.merge_opened-left.result.journal held.opens
+    let comes = behind c.segments_go_on.ensures.files c.segments_go_on.ensures.fair c.segments_go_on.ensures.theirs _ c.merge_opened-left.result.journal (c.requires.held _).opens
     (view_shown b second_mid.seen) b (subst (λ t. Opens t b) told c.in_ok-second_archive.ensures.opened) (view_told b second_mid.seen)
     (subst (λ t. HasLastGate t b) told c.in_ok-second_archive.ensures.last) c.last_gate.result c.last_gate.ensures
     second second_new told (keeps_on second second_mid second_new c.open_second.ensures.keeps read.rests)
-    c.args.holding.files held.names c.merge_opened-left.new.files.items c.merge_opened-left.result.refusal ends c.merge_opened-left.ensures.none
+    c.args.holding.files (c.requires.held _).names c.merge_opened-left.new.files.items c.merge_opened-left.result.refusal ends c.merge_opened-left.ensures.none
     (λ file is. subst (λ n. Rose n second_new.faults) c.in_ok-second_archive.ensures.steady (read.fault file is))
     (sym (c.version.ensures ∙ ap version c.names.ensures) ∙ c.in_ok-agree.ensures.0)
     (omega (arith, c.in_ok-agree.ensures.1, ap length (c.as_slice.ensures ∙ c.files.ensures)))
