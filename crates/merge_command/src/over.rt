@@ -183,26 +183,16 @@ pub(crate) fn add_second<D: Disk, E: Disk, R: Wait>(
     segments_go_on();
     let second_archive: Archive<PlainBooks> = open_second(alloc, second)?;
     let held = holding.files;
+    let other = second_archive.names().version();
     let more = second_archive.files().as_slice().len() as u64;
-    agree(
-        end.header.version,
-        held,
-        second_archive.names().version(),
-        more,
-    )?;
+    agree(end.header.version, held, other, more)?;
     let first = held as u32;
-    let JournalEnd {
-        header,
-        place,
-        count,
-        closed,
-    } = end;
     let journal = Journal {
         disk,
-        header,
-        place,
-        count,
-        closed,
+        header: end.header,
+        place: end.place,
+        count: end.count,
+        closed: end.closed,
     };
     let mut files = Vec::new(alloc);
     // taken apart, it would not be known how the loan of the journal's disk ends

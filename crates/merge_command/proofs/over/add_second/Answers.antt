@@ -70,7 +70,7 @@ merge_opened-left-requires-clause-begin g c =
     record {
       version_is = sym (c.version.ensures ∙ ap (λ (k : Kept). k.version) c.names.ensures) ∙ c.in_ok-agree.ensures.0;
       opens = (c.requires.held _).opens;
-      holds = (c.requires.held _).names;
+      holds = (c.requires.held 0).names;
       few = omega (arith, c.in_ok-agree.ensures.1, ap length (c.as_slice.ensures ∙ c.files.ensures));
     }
 
@@ -103,7 +103,7 @@ returns-clause-came g c =
     (view_shown b second_mid.seen) b (subst (λ t. Opens t b) told c.in_ok-second_archive.ensures.opened) (view_told b second_mid.seen)
     (subst (λ t. HasLastGate t b) told c.in_ok-second_archive.ensures.last) c.last_gate.result c.last_gate.ensures
     second second_new told (keeps_on second second_mid second_new c.open_second.ensures.keeps read.rests)
-    c.args.holding.files (c.requires.held _).names c.merge_opened-left.new.files.items c.merge_opened-left.result.refusal ends c.merge_opened-left.ensures.none
+    c.args.holding.files (c.requires.held 0).names c.merge_opened-left.new.files.items c.merge_opened-left.result.refusal ends c.merge_opened-left.ensures.none
     (λ file is. subst (λ n. Rose n second_new.faults) c.in_ok-second_archive.ensures.steady (read.fault file is))
     (sym (c.version.ensures ∙ ap version c.names.ensures) ∙ c.in_ok-agree.ensures.0)
     (omega (arith, c.in_ok-agree.ensures.1, ap length (c.as_slice.ensures ∙ c.files.ensures)))
@@ -131,7 +131,7 @@ returns-clause-behind g c =
     (view_shown b second_mid.seen) b (subst (λ t. Opens t b) told c.in_ok-second_archive.ensures.opened) (view_told b second_mid.seen)
     (subst (λ t. HasLastGate t b) told c.in_ok-second_archive.ensures.last) c.last_gate.result c.last_gate.ensures
     second second_new told (keeps_on second second_mid second_new c.open_second.ensures.keeps read.rests)
-    c.args.holding.files (c.requires.held _).names c.merge_opened-left.new.files.items c.merge_opened-left.result.refusal ends c.merge_opened-left.ensures.none
+    c.args.holding.files (c.requires.held 0).names c.merge_opened-left.new.files.items c.merge_opened-left.result.refusal ends c.merge_opened-left.ensures.none
     (λ file is. subst (λ n. Rose n second_new.faults) c.in_ok-second_archive.ensures.steady (read.fault file is))
     (sym (c.version.ensures ∙ ap version c.names.ensures) ∙ c.in_ok-agree.ensures.0)
     (omega (arith, c.in_ok-agree.ensures.1, ap length (c.as_slice.ensures ∙ c.files.ensures)))
