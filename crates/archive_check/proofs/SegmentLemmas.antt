@@ -1,6 +1,7 @@
 -- What a segment's payload begins with, and whose rows it holds.
 use Rattle.std.proofs.Common.{◌≡◌, ◌≢◌, ℕ, ◌+◌, ◌≤◌, List, [], ◌++◌, length, take, sym, ◌∙◌, ap, subst, arith, length-append}
 use Rattle.std.proofs.lemmas.List.{append_assoc, take_at}
+use mathlib.Core.List.{IsPrefix}
 use Rattle.column_store.specs.declared.row.Row.{Row}
 use Rattle.segment_format.specs.declared.fixed.Fixed.{Fixed}
 use Rattle.segment_format.specs.declared.head.Head.{Head}
@@ -66,13 +67,14 @@ bad_head payload front begins none file first last ended rows words fits spelled
 -- nor one that holds no rows
 pub bad_columns : (payload front : List ℕ) (head : Head) → IsHead head → front ≡ head_bytes head
     → ((h : Head) (rest : List ℕ) → IsHead h → payload ≡ head_bytes h ++ rest → front ≡ head_bytes h)
-    → ((list : List Row) → HoldsRows head payload list → ⊥) → SpellsNoSegment payload
+    → (IsPrefix (head_bytes head) payload → (list : List Row) → HoldsRows head payload list → ⊥) → SpellsNoSegment payload
 bad_columns payload front head is_head is begins none file first last ended rows words fits spelled =
     let back = read_back file first last ended rows words fits.as_file fits.as_first fits.fit fits.count fits.variables fits.set in
     let h : Head = head_of file first last ended rows words in
     let here : front ≡ head_bytes h = begins h (columns_bytes rows) back.0 spelled in
     let same : head ≡ h = (heads_once head h [] [] is_head back.0 (ap (λ (l : List ℕ). l ++ []) (sym is ∙ here))).0 in
-    none rows (subst (λ (k : Head). HoldsRows k payload rows) (sym same) (subst (λ (l : List ℕ). HoldsRows h l rows) (sym spelled) back.1))
+    let front_is_head : IsPrefix (head_bytes head) payload = subst (λ (k : Head). IsPrefix (head_bytes k) payload) (sym same) (columns_bytes rows, sym spelled) in
+    none front_is_head rows (subst (λ (k : Head). HoldsRows k payload rows) (sym same) (subst (λ (l : List ℕ). HoldsRows h l rows) (sym spelled) back.1))
 
 pub no_fixed : (payload rest fixed : List ℕ) (h : Head) → IsHead h → payload ≡ head_bytes h ++ rest → ((f : Fixed) → IsFixed f → fixed ≢ fixed_bytes f) → fixed ≡ take 45 payload → ⊥
 no_fixed payload rest fixed h is_head is none read = none (fixed_of h) is_head.fixed (read ∙ fixed_in payload rest h is)

@@ -231,6 +231,46 @@ fn changed_bytes(rt: HostRuntime) -> Result<(), Fail> {
     Ok(())
 }
 
+/// The places of bytes of the head that are no counts: of its file, of a flag, of its least moment, of a
+/// log type and of a word.
+const OTHER_HEADS: &[usize] = &[0, 16, 17, 45, 53];
+
+/// Whether this head's rows are refused of a payload that has another byte at this place.
+fn is_told_apart(alloc: Global, head: &Head, at: usize) -> Result<bool, AllocError>
+    requires { IsHead head.now }
+{
+    let mut bytes = Vec::from_slice(alloc, &TWO_ROWS)?;
+    if let Some(changed) = bytes.get_mut(at) {
+        *changed ^= 1;
+    }
+    let read = columns_of::<Brand>(alloc, head, bytes.as_slice(), Blank::new(1));
+    Ok(read.err() == Some(FormatRefusal::Malformed))
+}
+
+/// Whether this head's rows are read of its own payload, and of none with another head.
+fn are_told_apart(alloc: Global, head: &Head) -> Result<bool, AllocError>
+    requires { IsHead head.now }
+{
+    for at in OTHER_HEADS {
+        if !is_told_apart(alloc, head, *at)? {
+            return Ok(false);
+        }
+    }
+    Ok(columns_of::<Brand>(alloc, head, &TWO_ROWS, Blank::new(1)).is_ok())
+}
+
+fn heads_are_told_apart(alloc: Global) -> Result<bool, AllocError> {
+    match head_of(alloc, &TWO_ROWS) {
+        Some(head) => are_told_apart(alloc, &head),
+        None => Ok(false),
+    }
+}
+
+#[test]
+fn another_head(rt: HostRuntime) -> Result<(), Fail> {
+    holds(heads_are_told_apart(rt.alloc()))
+}
+
 /// A reader of the pages of a head, for a caller that counts nothing.
 fn pages_of<L: Ledger>(head: &Head, payload: u64, blank: Blank) -> Option<PageReader>
     requires blank { OpensFor blank L.name L.parts }

@@ -86,7 +86,8 @@ pub bad_head : (payload front : List ℕ) → ((h : Head) → HasHead h payload 
 bad_head payload front begins none types s of =
     let has = own_head types s payload of.form of.is in none (head_in types s) has.fits (begins (head_in types s) has)
 
-pub bad_columns : (payload front : List ℕ) (head : Head) → IsHead head → front ≡ head_bytes head → IsPrefix front payload → ((list : List Row) → HoldsRows head payload list → ⊥) → HoldsNoPart payload
+pub bad_columns : (payload front : List ℕ) (head : Head) → IsHead head → front ≡ head_bytes head → IsPrefix front payload
+    → (IsPrefix (head_bytes head) payload → (list : List Row) → HoldsRows head payload list → ⊥) → HoldsNoPart payload
 bad_columns payload front head is_head is begins none types s of =
     let same = same_head types s payload head of (begins_here payload front head is_head is begins) in
-    none s.rows (subst (λ (k : Head). HoldsRows k payload s.rows) (sym same) (own_rows types s payload of))
+    none (subst (λ (l : List ℕ). IsPrefix l payload) is begins) s.rows (subst (λ (k : Head). HoldsRows k payload s.rows) (sym same) (own_rows types s payload of))

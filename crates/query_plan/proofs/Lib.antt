@@ -17,3 +17,4 @@ mod TailLemmas
 mod TokenLemmas
 mod ChunkLemmas
 mod SlotLemmas
+mod StandingLemmas

@@ -33,10 +33,10 @@ plain_fronts behind s parts f [] u e = f u e
 plain_fronts behind s parts f (c ∷ v) [] e = tt
 plain_fronts behind s parts f (c ∷ v) (b ∷ u) e = (cc (e), plain_fronts behind s parts f v u (cc (e)))
 
-token_off : (b : ℕ) (w : List ℕ) → IsTrue (is_token_byte b) → after_token (b ∷ w) ≡ after_token w
+pub token_off : (b : ℕ) (w : List ℕ) → IsTrue (is_token_byte b) → after_token (b ∷ w) ≡ after_token w
 token_off b w is = ap (λ t. cond t (after_token w) (b ∷ w)) is
 
-token_over : (b : ℕ) (w : List ℕ) → IsDelimiter b → after_token (b ∷ w) ≡ b ∷ w
+pub token_over : (b : ℕ) (w : List ℕ) → IsDelimiter b → after_token (b ∷ w) ≡ b ∷ w
 token_over b w is = ap (λ t. cond t (after_token w) (b ∷ w)) is
 
 -- within a variable, whose bytes these are

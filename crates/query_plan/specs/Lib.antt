@@ -5,4 +5,5 @@ pub mod Pieces
 pub mod Readings
 pub mod Slots
 pub mod StepsOfMatching
+pub mod StepsStanding
 pub mod Symbols

@@ -1,10 +1,13 @@
 //! Where a text may stand in the messages of a log type.
-ghost use Rattle.std.specs.Prelude.{◌≡◌, ◌↔◌, ◌∷◌, List, IsTrue, MatchOption};
+ghost use Rattle.std.specs.Prelude.{◌≡◌, ◌↔◌, ◌<◌, ◌∷◌, ℕ, List, length, IsTrue, IsFalse};
+ghost use Rattle.std.specs.Prelude.{IfSome, MatchOption, slice_index};
 ghost use Rattle.logtype_text.specs.declared.symbols.Symbol.{Symbol};
 ghost use Rattle.logtype_text.specs.TypeText.{type_text};
 ghost use Rattle.query_plan.specs.Slots.{MayBegin, MayStand, after_token};
+ghost use Rattle.query_plan.specs.StepsStanding.{BeginsAt, IsMissed, IsPlainDelimiter, StandsAt};
 
-use logtype_text::{Symbol, first_symbol};
+use logtype_text::{Symbol, first_symbol, needs_escape};
+use memchr::memchr;
 use token_rules::is_delim;
 
 /// What is left of a text behind the bytes of a token at its front.
@@ -66,10 +69,8 @@ pub fn may_begin(text: &[u8], log_type: &[u8]) -> bool
     true
 }
 
-/// Whether a text may stand in messages of a log type, which is given by its text: with some symbol
-/// first, or within a variable. Where it may not, no body of the log type has the text, by
-/// [`texts_stand`](crate::texts_stand). Takes no memory.
-pub fn may_stand(text: &[u8], log_type: &[u8]) -> bool
+/// Whether a text may begin with some symbol of a log type. Each one is tried.
+fn begins_somewhere(text: &[u8], log_type: &[u8]) -> bool
     ensures { (symbols : List Symbol) → log_type.now ≡ type_text symbols
         → IsTrue result ↔ MayStand text.now symbols }
 {
@@ -81,4 +82,54 @@ pub fn may_stand(text: &[u8], log_type: &[u8]) -> bool
         rest = after;
     }
     may_begin(text, rest)
+}
+
+/// The place of a delimiter that log types store as it is. A space is taken where there is no other
+/// one, since log types have many.
+fn plain_delimiter(text: &[u8]) -> Option<usize>
+    ensures { IfSome result (λ at. (at < length text.now)
+        × IsPlainDelimiter (slice_index text.now at)) }
+{
+    for (at, byte) in text.iter().enumerate() {
+        if *byte != b' ' && is_delim(*byte) && !needs_escape(*byte) {
+            return Some(at);
+        }
+    }
+    memchr(b' ', text)
+}
+
+/// Whether a text may begin at some place of a log type that holds this byte.
+fn begins_at(byte: u8, text: &[u8], log_type: &[u8]) -> bool
+    ensures found { IsTrue result → (at : ℕ) × StandsAt byte log_type.now at
+        × BeginsAt text.now log_type.now at }
+    ensures missed { IsFalse result → (at : ℕ) → IsMissed byte text.now log_type.now at }
+{
+    let mut from = 0;
+    while let Some(ahead) = memchr(byte, &log_type[from..]) {
+        let at = from + ahead;
+        if may_begin(text, &log_type[at..]) {
+            return true;
+        }
+        from = at + 1;
+    }
+    false
+}
+
+/// Whether a text may stand in messages of a log type, which is given by its text: with some symbol
+/// first, or within a variable. Where it may not, no body of the log type has the text, by
+/// [`texts_stand`](crate::texts_stand). Takes no memory.
+///
+/// A delimiter of the text is a constant byte of the log type, and most log types have it nowhere
+/// with what stands behind it.
+pub fn may_stand(text: &[u8], log_type: &[u8]) -> bool
+    ensures { (symbols : List Symbol) → log_type.now ≡ type_text symbols
+        → IsTrue result ↔ MayStand text.now symbols }
+{
+    let Some(at) = plain_delimiter(text) else {
+        return begins_somewhere(text, log_type);
+    };
+    if !begins_at(text[at], &text[at..], log_type) {
+        return false;
+    }
+    at == 0 || begins_somewhere(text, log_type)
 }

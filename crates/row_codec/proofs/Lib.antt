@@ -3,9 +3,11 @@ pub mod CanonicalLemmas
 pub mod CutTextLemmas
 pub mod EncoderLemmas
 pub mod GrowthLemmas
+pub mod LayingLemmas
 pub mod LayoutLemmas
 pub mod MeansLemmas
 pub mod OneCutLemmas
 pub mod OpeningLemmas
 pub mod RunLemmas
 pub mod StampLemmas
+pub mod StoreLemmas

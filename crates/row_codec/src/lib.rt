@@ -11,12 +11,14 @@ mod encoder;
 mod expanding;
 mod fitting;
 mod laws;
+mod laying;
 mod layouts;
 mod message;
 mod namer;
 mod names;
 mod opening;
 mod runs;
+mod stores;
 mod writer;
 
 pub use canonical::row_ok;

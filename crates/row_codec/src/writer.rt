@@ -9,8 +9,10 @@ ghost use Rattle.row_codec.specs.StepsLayouts.{IsClosed, spelled};
 
 use crate::Names;
 use crate::expanding::{put_body, put_stamp, put_symbol};
+use crate::laying::{NotLaid, lay_row};
 use crate::layouts::{Layout, Layouts, Next};
 use crate::runs::put_front;
+use crate::stores::ROOM;
 use column_store::{Columns, RowRef};
 use logtype_text::Symbol;
 use std::alloc::AllocError;
@@ -31,6 +33,8 @@ const AHEAD: u32 = 64;
 pub struct RowWriter<'l> {
     layouts: &'l Layouts,
     printer: StampPrinter,
+    // A row is put together here before it is appended.
+    text: [u8; ROOM],
     // About how much room the words of the rows need that were looked at since a row was written.
     room: usize,
 }
@@ -51,6 +55,7 @@ impl<'l> RowWriter<'l> {
         RowWriter {
             layouts,
             printer: StampPrinter::new(),
+            text: [0; ROOM],
             room: 0,
         }
     }
@@ -104,17 +109,44 @@ impl<'l> RowWriter<'l> {
     {
         out.reserve(self.room)?;
         self.room = 0;
-        let len = out.len();
-        match put_laid_row(self.layouts, &mut self.printer, row, names, out) {
-            Ok(true) => Ok(true),
-            Ok(false) => {
-                out.truncate(len);
-                Ok(false)
+        match lay_row(self.layouts, &mut self.printer, row, names, &mut self.text) {
+            Ok(Some(len)) => {
+                out.extend_from_slice(&self.text[..len])?;
+                Ok(true)
             }
-            Err(error) => {
-                out.truncate(len);
-                Err(error)
-            }
+            Ok(None) => Ok(false),
+            Err(NotLaid) => put_fitting(self.layouts, &mut self.printer, row, names, out),
+        }
+    }
+}
+
+// Appends what a row is written as piece by piece, where it can be written, and tells whether it can.
+// Where it cannot, and without memory, nothing is appended.
+fn put_fitting<N: Names>(
+    layouts: &Layouts,
+    printer: &mut StampPrinter,
+    row: RowRef<'_>,
+    names: &N,
+    out: &mut Vec<u8>,
+) -> Result<bool, AllocError>
+    requires { AreCut layouts.now (N.types names.now) }
+    ensures written { IfOk result (λ fits. IsTrue fits → IsAppended (row_of row.entry)
+        (N.types names.now) (N.words names.now) out.old.items out.new.items) }
+    ensures misfit { IfOk result (λ fits. IsFalse fits
+        → ¬ HasSpelling (row_of row.entry) (N.types names.now) (N.words names.now)) }
+    ensures left { IfOk result (λ fits. IsFalse fits → out.new.items ≡ out.old.items) }
+    ensures kept { OnErr result (out.new.items ≡ out.old.items) }
+{
+    let len = out.len();
+    match put_laid_row(layouts, printer, row, names, out) {
+        Ok(true) => Ok(true),
+        Ok(false) => {
+            out.truncate(len);
+            Ok(false)
+        }
+        Err(error) => {
+            out.truncate(len);
+            Err(error)
         }
     }
 }

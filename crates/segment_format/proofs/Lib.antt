@@ -1,5 +1,6 @@
 pub mod ColumnLemmas
 pub mod FixedLemmas
+pub mod FrontLemmas
 pub mod UniqueLemmas
 pub mod RowsLemmas
 pub mod HeadLemmas

@@ -1,8 +1,9 @@
 //! The columns of a segment's rows.
 
 ghost use Rattle.std.specs.Prelude.{◌≡◌, ◌+◌, ◌*◌, ◌<◌, ◌^◌, List, length, IfOk, IsErrOf};
+ghost use mathlib.Core.List.{IsPrefix};
 ghost use Rattle.column_store.specs.declared.row.Row.{Row};
-ghost use Rattle.segment_format.specs.Layout.{IsHead};
+ghost use Rattle.segment_format.specs.Layout.{IsHead, head_bytes};
 ghost use Rattle.segment_format.specs.Spelled.{AreColumnsIn, HoldsRows};
 ghost use Rattle.segment_format.specs.StepsColumns.{AreFilled};
 
@@ -82,9 +83,9 @@ pub fn columns_in(
     }
 }
 
-/// The rows of a segment, from the payload of its record: the bytes of its head, which are not looked
-/// at, and then the columns. It ticks once. `Malformed` comes exactly where columns of as many rows and
-/// variables as the head says do not stand there, or anything stands behind them.
+/// The rows of a segment, from the payload of its record: the bytes of its head, and then the columns. It
+/// ticks once. `Malformed` comes exactly where the payload does not begin with this head, or columns of
+/// as many rows and variables as the head says do not stand behind it, or anything stands behind them.
 pub fn read_columns<L: Ledger>(
     alloc: Global,
     head: &Head,
@@ -92,16 +93,22 @@ pub fn read_columns<L: Ledger>(
     steps: &mut Steps<L>,
 ) -> Result<Columns, FormatRefusal>
     requires { IsHead head.now }
+    // what was read
+    ensures front { IfOk result (λ _. IsPrefix (head_bytes head.now) payload.now) }
     ensures spelled { IfOk result (λ c. HoldsRows head.now payload.now c.rows) }
     ensures bytes { IfOk result (λ c. c.bytes ≡ 0) }
+    // what is refused
+    ensures other_head { ¬ IsPrefix (head_bytes head.now) payload.now
+        → IsErrOf result FormatRefusal.Malformed }
     ensures malformed { IsErrOf result FormatRefusal.Malformed
+        → IsPrefix (head_bytes head.now) payload.now
         → (list : List Row) → HoldsRows head.now payload.now list → ⊥ }
     ensures steps { steps.new ≡ steps.old + 1 }
 {
     steps.tick();
     let front = head.fixed().head_len();
     let columns = ROW_LEN * u64::from(head.rows) + WORD_LEN * u64::from(head.variables);
-    if payload.len() as u64 != front + columns {
+    if payload.len() as u64 != front + columns || !head.begins(payload) {
         return Err(FormatRefusal::Malformed);
     }
     let (_, bytes) = payload.split_at(front as usize);

@@ -1,6 +1,6 @@
 //! The fixed part of a segment's head.
 
-ghost use Rattle.std.specs.Prelude.{◌≡◌, ◌≢◌, ◌≤◌, ◌++◌, Bool, length, take, IfSome, IsNone, OnOk};
+ghost use Rattle.std.specs.Prelude.{◌≡◌, ◌≢◌, ◌≤◌, ◌++◌, Bool, length, take, IsTrue, IfSome, IsNone, OnOk};
 ghost use Rattle.segment_format.specs.Layout.{IsFixed, fixed_bytes, flags, head_length};
 
 use crate::numbers::{put_long, put_moment, put_number};
@@ -111,5 +111,20 @@ impl Fixed {
         ensures { result ≡ head_length self.now }
     {
         FIXED_LEN as u64 + 4 * (u64::from(self.types) + u64::from(self.words))
+    }
+
+    /// Whether both have the same fields.
+    pub fn is(&self, other: &Fixed) -> bool
+        ensures yes { IsTrue result → self.now ≡ other.now }
+        ensures no { self.now ≡ other.now → IsTrue result }
+    {
+        let places = self.file == other.file && self.first == other.first;
+        let flags = self.last == other.last
+            && self.ended == other.ended
+            && self.stamped == other.stamped;
+        let moments = self.least == other.least && self.greatest == other.greatest;
+        let lists = self.types == other.types && self.words == other.words;
+        let columns = self.rows == other.rows && self.variables == other.variables;
+        places && flags && moments && lists && columns
     }
 }

@@ -1,13 +1,14 @@
 //! The head of a segment: what its rows hold.
 
-ghost use Rattle.std.specs.Prelude.{◌≡◌, ◌≢◌, ◌<◌, ◌*◌, ◌^◌, ◌%◌, ℕ, List, length, IsTrue, IfOk, IsErrOf};
+ghost use Rattle.std.specs.Prelude.{◌≡◌, ◌≢◌, ◌<◌, ◌≤◌, ◌*◌, ◌^◌, ◌%◌, ℕ, List, length, IsTrue, IfOk, IsErrOf};
+ghost use mathlib.Core.List.{IsPrefix};
 ghost use Rattle.std.specs.List.{flat_map};
 ghost use Rattle.std.specs.List.Sorted.{IsStrictlyIncreasing};
 ghost use Rattle.record_format.specs.Lists.{four_bytes};
-ghost use Rattle.segment_format.specs.Layout.{IsHead, IsNumberSet, head_bytes, fixed_of};
+ghost use Rattle.segment_format.specs.Layout.{IsHead, IsNumberSet, head_bytes, head_length, fixed_of};
 
 use crate::fixed::{FIXED_LEN, Fixed, read_fixed};
-use crate::numbers::fill_numbers;
+use crate::numbers::{are_numbers, fill_numbers};
 use plain_list::NumberList;
 use record_format::FormatRefusal;
 use std::alloc::Global;
@@ -58,6 +59,24 @@ impl Head {
             words: self.words.len() as u32,
             variables: self.variables,
         }
+    }
+
+    /// Whether the payload begins with this head. It takes no memory.
+    pub fn begins(&self, payload: &[u8]) -> bool
+        requires head { IsHead self.now }
+        requires long { head_length (fixed_of self.now) ≤ length payload.now }
+        ensures yes { IsTrue result → IsPrefix (head_bytes self.now) payload.now }
+        ensures no { IsPrefix (head_bytes self.now) payload.now → IsTrue result }
+    {
+        let Some(fixed) = read_fixed(payload) else {
+            return false;
+        };
+        if !fixed.is(&self.fixed()) {
+            return false;
+        }
+        let (types, behind) = payload[FIXED_LEN..].split_at(4 * self.types.len());
+        let (words, _) = behind.split_at(4 * self.words.len());
+        are_numbers(types, self.types.as_slice()) && are_numbers(words, self.words.as_slice())
     }
 }
 

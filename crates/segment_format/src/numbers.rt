@@ -1,6 +1,6 @@
 //! Columns of numbers as bytes, the lowest byte of each number first.
 
-ghost use Rattle.std.specs.Prelude.{◌≡◌, ◌<◌, ◌^◌, ◌++◌, ◌*◌, ◌%◌, length, All, OnOk};
+ghost use Rattle.std.specs.Prelude.{◌≡◌, ◌<◌, ◌^◌, ◌++◌, ◌*◌, ◌%◌, length, All, IsTrue, OnOk};
 ghost use Rattle.std.specs.Int.{w64};
 ghost use Rattle.std.specs.Int.RustNames.{FitsSigned};
 ghost use Rattle.std.specs.List.{flat_map};
@@ -88,6 +88,20 @@ pub fn put_moments(out: &mut Vec<u8>, moments: &[i64]) -> Result<(), AllocError>
     out.resize(start + 8 * moments.len(), 0)?;
     LittleEndian::write_i64_into(moments, &mut out[start..]);
     Ok(())
+}
+
+/// Whether the bytes are these numbers, in four bytes each.
+pub fn are_numbers(bytes: &[u8], numbers: &[u32]) -> bool
+    requires { length bytes.now ≡ 4 * length numbers.now }
+    ensures yes { IsTrue result → bytes.now ≡ flat_map four_bytes numbers.now }
+    ensures no { bytes.now ≡ flat_map four_bytes numbers.now → IsTrue result }
+{
+    for place in 0..numbers.len() {
+        if LittleEndian::read_u32(&bytes[4 * place..]) != numbers[place] {
+            return false;
+        }
+    }
+    true
 }
 
 /// Makes the vector the numbers of four bytes each that the bytes are.

@@ -1,8 +1,8 @@
 -- Sets of tokens as bits.
 use Rattle.std.proofs.Common.{ℕ, ◌≤◌, ap, arith}
-use Rattle.std.specs.Prelude.{bit_or}
+use Rattle.std.specs.Prelude.{bit_and, bit_or}
 use Rattle.std.specs.Int.{bit_at}
-use Rattle.std.proofs.lemmas.Nat.Bits.{bit_at_or, same_from_bits}
+use Rattle.std.proofs.lemmas.Nat.Bits.{bit_at_and, bit_at_or, same_from_bits}
 use Rattle.subquery_filter.specs.Filter.{Has}
 
 bits_of : (a c : ℕ) → Has a c → (i : ℕ) → bit_at c i ≤ bit_at a i
@@ -25,6 +25,9 @@ has_self a = has_bits a a (λ i. omega arith)
 
 pub has_both : (all a b : ℕ) → Has all a → Has all b → Has all (bit_or a b)
 has_both all a b one two = has_bits all (bit_or a b) (λ i. let x = bits_of all a one i in let y = bits_of all b two i in omega (arith, x, y, bit_at_or a b i))
+
+pub has_and : (a b c : ℕ) → Has a c → Has b c → Has (bit_and a b) c
+has_and a b c one two = has_bits (bit_and a b) c (λ i. let x = bits_of a c one i in let y = bits_of b c two i in omega (arith, x, y, bit_at_and a b i))
 
 pub has_none : (all : ℕ) → Has all 0
 has_none all = has_bits all 0 (λ i. omega arith)

@@ -24,7 +24,7 @@ use Rattle.query_plan.specs.Needs.{Owns, around}
 use Rattle.query_plan.specs.Pieces.{After, EndsWord, Free, IsCut, IsInner, IsSomeInner, bytes, flat}
 use Rattle.query_plan.specs.Readings.{Rest, now, SomeReads, Term, Star, AtWord, Goes, shut, lead, Reads, star, mark, text as as_text, held, Accepts, letter, pass, eat, fill}
 use Rattle.subquery_filter.specs.declared.token.Token.{Token}
-use Rattle.subquery_filter.specs.declared.tokens.ClosedNumber.{ClosedNumber}
+use Rattle.subquery_filter.specs.declared.tokens.ClosedVariable.{ClosedVariable}
 use Rattle.subquery_filter.specs.Filter.{AreCoded, Finds, Has, IsAsked, MarksOpen, MarksVariable}
 use Rattle.subquery_filter.specs.StepsLetters.{kinds_in}
 use Rattle.subquery_filter.specs.StepsFilter.{IsClosedBy}
@@ -257,8 +257,8 @@ closed_by ps (suc n) a b t code some left here right is coded =
     let at = chunk_at ps n (Mark a) (Word t) (Mark b) (ap (λ (i : ℕ). slice_get ps i) (sym one) ∙ left) here (ap (λ (i : ℕ). slice_get ps i) (sym two) ∙ right) in
     (record { before = a; behind = b; chunk = record { before = at.0; behind = at.1; stands = at.2; whole = tt }; variable = is; coded = coded }, refl, refl)
 
-pub closed_number_is : (ps : List Piece) (t : List ℕ) (n m : ClosedNumber) → m ≡ n → IsClosedBy ps t m.code m.before m.behind → IsClosedBy ps t n.code n.before n.behind
-closed_number_is ps t n m same closed = subst (λ (x : ClosedNumber). IsClosedBy ps t x.code x.before x.behind) same closed
+pub closed_variable_is : (ps : List Piece) (t : List ℕ) (n m : ClosedVariable) → m ≡ n → IsClosedBy ps t m.code m.before m.behind → IsClosedBy ps t n.code n.before n.behind
+closed_variable_is ps t n m same closed = subst (λ (x : ClosedVariable). IsClosedBy ps t x.code x.before x.behind) same closed
 
 -- ---- rows
 
@@ -368,8 +368,8 @@ asked_at ps place t w k there is around_is runs closes = record {
 }
 
 -- a number between delimiters with these
-pub closed_in : (ps : List Piece) (t w : List ℕ) (number : Option ClosedNumber) (closed : Option Coded) → ((n : ClosedNumber) → number ≡ Some n → IsClosedBy ps t n.code n.before n.behind)
-    → ((n : ClosedNumber) → number ≡ Some n → w ≡ n.before ∷ (t ++ n.behind ∷ [])) → ((code : Coded) → closed ≡ Some code → (n : ClosedNumber) × (number ≡ Some n) × (n.code ≡ code))
+pub closed_in : (ps : List Piece) (t w : List ℕ) (number : Option ClosedVariable) (closed : Option Coded) → ((n : ClosedVariable) → number ≡ Some n → IsClosedBy ps t n.code n.before n.behind)
+    → ((n : ClosedVariable) → number ≡ Some n → w ≡ n.before ∷ (t ++ n.behind ∷ [])) → ((code : Coded) → closed ≡ Some code → (n : ClosedVariable) × (number ≡ Some n) × (n.code ≡ code))
     → (code : Coded) → closed ≡ Some code → IsClosedIn ps t w code
 closed_in ps t w number closed told text codes code some =
     let (n, is, same) = codes code some in
@@ -381,7 +381,7 @@ are_coded ps tokens are j d lt code some = ((are j d lt).closed code some).0.cod
 
 -- ---- bits of a variable
 
--- the bits of closed numbers and those of the others are the bits of a variable
+-- the bits of closed variables and those of the others are the bits of a variable
 pub both_marks : OneWord → (tokens : List Token) (text : List ℕ) (code : Coded) (exact more : ℕ) → Codes text code → AreCoded tokens → All (λ k. k.closed ≡ Some code → Has exact k.bit) tokens
     → MarksOpen tokens text more → MarksVariable tokens text (bit_or exact more)
 both_marks one tokens text code exact more coded are exactly openly j d lt finds =

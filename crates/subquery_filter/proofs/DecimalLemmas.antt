@@ -1,6 +1,6 @@
 -- Digits stand in the text of a decimal only where they stand in its digits read as one number.
 use Rattle.std.proofs.Common.{◌≡◌, ℕ, zero, suc, ◌-◌, ◌<◌, ◌/◌, ◌%◌, ◌^◌, Bool, true, false, cond, List, [], ◌∷◌, ◌++◌, length, drop, replicate, refl, sym, ◌∙◌, ap, subst, arith, inl, inr}
-use Rattle.std.specs.Prelude.{◌⊎◌, ◌&&◌, All, None, Some, slice_get, slice_index_or}
+use Rattle.std.specs.Prelude.{◌⊎◌, ◌&&◌, All, None, slice_index_or}
 use Rattle.std.specs.Fmt.{decimal, sign_text, signed_decimal}
 use Rattle.std.specs.Int.{cast_signed, is_in_range, w64}
 use Rattle.std.proofs.lemmas.Bool.Decides.{nat_tests}
@@ -15,7 +15,7 @@ use Rattle.wild_match.specs.declared.pattern.Item.TheVariants.{Many}
 use Rattle.query_plan.specs.Needs.{around}
 use Rattle.query_plan.specs.Pieces.{bytes}
 use Rattle.subquery_filter.specs.declared.token.Token.{Token}
-use Rattle.subquery_filter.specs.Filter.{AreSmall, MarksOpen}
+use Rattle.subquery_filter.specs.Filter.{MarksOpen}
 use Rattle.subquery_filter.specs.NumberText.{is_digits, is_number_part, is_plain}
 use Rattle.subquery_filter.proofs.NumberLemmas.{decimal_part, stands_in}
 
@@ -120,7 +120,7 @@ plain_decimal t text word is d m =
     same_digits whole (digits_in (length whole) number) (digits-append p.before p.after d.decimal.before d.decimal.after.1) h.digits (sym h.long) (sym f.value ∙ sym h.value) in
     behind_zeros t (16 - length (decimal number)) (decimal number) is (around_drop t (16 - length whole) (padded number) (subst (Match (around t)) same own))
 
--- ---- by the table of small numbers
+-- ---- by what is told of its digits read as one number
 
 pub not_pointed : (k : Token) → k.plain ≡ true → is_plain k.text ≡ true
 not_pointed k plain = sym k.plain_is ∙ plain
@@ -128,15 +128,15 @@ not_pointed k plain = sym k.plain_is ∙ plain
 pub not_number : (k : Token) → k.numeric ≡ false → k.closed ≡ None → is_number_part true k.text ≡ true → is_plain k.text ≡ true
 not_number k never closed part = absurd (let e : true ≡ false = sym part ∙ k.numeric_is never closed in cc)
 
-small_signed : (n : ℕ) → n < 2 ^ 63 → signed_decimal (cast_signed w64 n) ≡ decimal n
+pub small_signed : (n : ℕ) → n < 2 ^ 63 → signed_decimal (cast_signed w64 n) ≡ decimal n
 small_signed n small = ap signed_decimal (to_z_pos w64 n small)
 
-pub small_marks : (tokens : List Token) (small : List ℕ) (word number bits : ℕ) → AreSmall tokens small → number ≡ word / 2 ^ 8 % 2 ^ 54 → Some bits ≡ slice_get small number
+pub told_marks : (tokens : List Token) (word number bits : ℕ) → number ≡ word / 2 ^ 8 % 2 ^ 54 → MarksOpen tokens (signed_decimal (cast_signed w64 number)) bits
     → All (λ k. k.closed ≡ None → is_number_part true k.text ≡ true → is_plain k.text ≡ true) tokens → (text : List ℕ) → Codes text (DecimalWord word) → MarksOpen tokens text bits
-small_marks tokens small word number bits are number_is there plain text is j d lt free m =
+told_marks tokens word number bits number_is marks plain text is j d lt free m =
     let k : Token = slice_index_or tokens j d in
     let stands : Match (around k.text) text = stands_in k text m in
     let own : Match (around k.text) (decimal (word / 2 ^ 8 % 2 ^ 54)) = plain_decimal k.text text word (plain j d lt free (decimal_part k.text text word is stands)) is stands in
     let whole : Match (around k.text) (decimal number) = subst (λ (n : ℕ). Match (around k.text) (decimal n)) (sym number_is) own in
-    are number bits (sym there) j d lt free
+    marks j d lt free
     (subst (λ x. Match x (signed_decimal (cast_signed w64 number))) (sym (k.same ∙ k.stands)) (subst (Match (around k.text)) (sym (small_signed number (omega (arith, number_is)))) whole))

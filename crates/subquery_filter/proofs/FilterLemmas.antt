@@ -1,6 +1,6 @@
 -- What the bits of a filter tell of rows.
 use Rattle.std.proofs.Common.{◌≡◌, ◌≢◌, ℕ, zero, suc, ◌+◌, ◌<◌, ◌≤◌, false, List, [], ◌∷◌, ◌++◌, length, get_or, map, refl, sym, ◌∙◌, ap, subst, arith, inl, inr, length-append}
-use Rattle.std.specs.Prelude.{◌⊎◌, Option, None, Some, bit_or, slice_get, slice_index_or}
+use Rattle.std.specs.Prelude.{◌⊎◌, Option, None, Some, Result, Ok, Err, IfOk, bit_or, slice_get, slice_index_or}
 use Rattle.std.specs.List.{Contains}
 use Rattle.std.proofs.lemmas.Bool.{cases_lt}
 use Rattle.std.specs.Fmt.{signed_decimal}
@@ -25,13 +25,14 @@ use Rattle.subquery_filter.specs.declared.run.Run.{Run}
 use Rattle.subquery_filter.specs.declared.filter.Filter.{Filter}
 use Rattle.subquery_filter.specs.declared.marks.WordMarks.{WordMarks}
 use Rattle.subquery_filter.specs.declared.slots.Beside.{Beside}
+use Rattle.subquery_filter.specs.declared.slots.KindBits.{KindBits}
 use Rattle.subquery_filter.specs.declared.slots.Slot.{Slot}
 use Rattle.subquery_filter.specs.declared.slots.TypeTest.{TypeTest}
 use Rattle.subquery_filter.specs.declared.token.Token.{Token}
 use Rattle.subquery_filter.specs.declared.verdicts.Verdict.{Verdict}
 use Rattle.subquery_filter.specs.declared.verdicts.Verdict.TheVariants.{Rejected, Certain, Tried}
-use Rattle.subquery_filter.specs.Filter.{AreSlots, AreSmall, AreTests, AsksTypes, Covers, Gives, Has, HasNoMatch, IsAsked, IsFilter, IsListed, IsRight, IsRowVerdict, IsSlot, IsTest, LacksAll, LacksRuns, LacksText, RunMarks, StampMarks, MarksOpen, MarksVariable, beside_of, marks_at, may_by}
-use Rattle.subquery_filter.specs.StepsFilter.{AreTokens, HasEach, IsShut, Lacks, LacksStamp, LacksTokens, RunsBring, StampsBring, Stays}
+use Rattle.subquery_filter.specs.Filter.{AreKindBits, AreSlots, AreSmall, AreTests, AsksTypes, Covers, Gives, Has, HasNoMatch, IsAsked, IsFilter, IsListed, IsRight, IsRowVerdict, IsSlot, IsTest, LacksAll, LacksRuns, LacksText, RunMarks, StampMarks, MarksOpen, MarksVariable, beside_of, marks_at, may_by}
+use Rattle.subquery_filter.specs.StepsFilter.{AreTokens, HasAll, HasEach, IsShut, Lacks, LacksStamp, LacksTokens, RunsBring, StampsBring, Stays}
 use Rattle.subquery_filter.specs.StepsLetters.{kinds_in}
 use Rattle.subquery_filter.specs.Tokens.{RowsBring, RowsBringChunks}
 use Rattle.subquery_filter.specs.Verdicts.{CertainAlwaysMatches, IsCertain, IsRejected, RejectedNeverMatches}
@@ -201,6 +202,13 @@ open_is ps tokens beside slots text test tried gives are = record {
   slots_are = λ same. are;
 }
 
+-- what a test is told of by its slots, for one list of tokens
+pub test_told : {E : Type 0} (ps : List Piece) (tokens : List Token) (kinds : KindBits) (beside : Beside) (slots : List Slot) (text : List ℕ) (known all : ℕ) (r : Result TypeTest E) → Gives tokens text known
+    → IfOk r (λ test. (looked : List Token) → Gives looked text known → AreKindBits looked kinds → IsTest ps looked beside slots text test)
+    → IfOk r (λ test. HasAll tokens all → AreKindBits tokens kinds → IsTest ps tokens beside slots text test)
+test_told ps tokens kinds beside slots text known all (Ok test) gives told = λ has are. told tokens gives are
+test_told ps tokens kinds beside slots text known all (Err e) gives told = tt
+
 pub tokens_push : (ps : List Piece) (old new : List Token) (token : Token) → new ≡ old ++ token ∷ [] → IsAsked ps token → AreTokens ps old → AreTokens ps new
 tokens_push ps old new token is asked are = subst (AreTokens ps) (sym is) (All-push (IsAsked ps) old token are asked)
 
@@ -258,7 +266,7 @@ row_lacks law p types words f is row test at tried h =
     (λ parts typed place kind word variable slot there listed has j d lt fits.
     let same : (k : Kind) → k ≡ kind → HasWord words k variable word = λ k e. subst (λ (x : Kind). HasWord words x variable word) (sym e) has in
     h.slots listed.at listed.from listed.to listed.slot word listed.is (subst (λ (n : ℕ). slice_get row.words n ≡ Some word) (sym listed.same_place) there) words variable
-    (λ w. is.marks) is.asks.small is.asks.numbers (are_coded (wide_pieces p) f.tokens.items is.asks.are) (same listed.slot.kind listed.same_kind) j d lt fits (listed.covers words variable word has j d lt fits))
+    (λ w. is.marks) is.asks.brought is.asks.small is.asks.numbers (are_coded (wide_pieces p) f.tokens.items is.asks.are) (same listed.slot.kind listed.same_kind) j d lt fits (listed.covers words variable word has j d lt fits))
     h.lacks
 
 stamp_may : (f : Filter) (types words : List (List ℕ)) (ps : List Piece) → IsFilter ps types words f → (row : Row) (bits : ℕ) → Has bits f.stamped → (s : List ℕ) → HasStampText row.pattern row.moment s → StampMarks f.tokens.items s bits

@@ -9,6 +9,7 @@ mod FilterLemmas
 mod RejectLemmas
 mod NumberLemmas
 mod DecimalLemmas
+mod SmallLemmas
 mod SlotLemmas
 mod StampLemmas
 mod MarkLemmas

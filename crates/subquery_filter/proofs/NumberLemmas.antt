@@ -65,7 +65,7 @@ digits_front point (b ∷ t) (c ∷ s) m is =
     front_by (is_in_range 48 57 b) (point && (b == 46)) (is_digits point s) (is_digits false s) (is_digits point t) (is_digits false t)
     (subst (λ x. is_digits point (x ∷ s) ≡ true) m.0 is) (λ e. digits_front point t s m.1 e) (λ e. digits_front false t s m.1 e)
 
-digits_in : (point : Bool) (t s : List ℕ) → Match (around t) s → is_digits point s ≡ true → is_digits point t ≡ true
+pub digits_in : (point : Bool) (t s : List ℕ) → Match (around t) s → is_digits point s ≡ true → is_digits point t ≡ true
 digits_in point t [] m is = digits_front point t [] m is
 digits_in point t (c ∷ s) (inl m) is = digits_front point t (c ∷ s) m is
 digits_in point t (c ∷ s) (inr m) is = digits_in point t s m (digits_rest point c s is)
@@ -108,7 +108,7 @@ in_range c lt =
     let within = digit_from_value c lt in
     let digit : (nat_le 48 c && nat_le c 57) ≡ true = grind (arith, nat_tests, within) in digit
 
-all_are : (point : Bool) (s : List ℕ) → AllDigits 10 s → is_digits point s ≡ true
+pub all_are : (point : Bool) (s : List ℕ) → AllDigits 10 s → is_digits point s ≡ true
 all_are point [] d = refl
 all_are point (c ∷ s) d = ap (λ x. cond x (is_digits point s) ((point && (c == 46)) && is_digits false s)) (in_range c d.0) ∙ all_are point s d.1
 

@@ -1,6 +1,6 @@
 -- The slots of log types, and what rows bring by them.
 use Rattle.std.proofs.Common.{◌≡◌, ◌≢◌, ℕ, zero, suc, ◌+◌, ◌<◌, ◌≤◌, true, false, cond, List, [], ◌∷◌, ◌++◌, length, drop, refl, sym, ◌∙◌, ap, subst, arith, inl, inr, length-append}
-use Rattle.std.specs.Prelude.{◌==◌, ◌⊎◌, ℤ, Option, None, Some, bit_or, slice_get, slice_index_or}
+use Rattle.std.specs.Prelude.{◌==◌, ◌⊎◌, ℤ, Option, None, Some, bit_and, bit_or, slice_get, slice_index_or}
 use Rattle.std.proofs.lemmas.Bool.{cases_Bool, cases_lt}
 use Rattle.column_store.specs.declared.row.Row.{Row}
 use Rattle.row_codec.specs.Means.{HasStampText, HasWord}
@@ -15,13 +15,13 @@ use Rattle.subquery_filter.specs.declared.slots.KindBits.{KindBits}
 use Rattle.subquery_filter.specs.declared.slots.Slot.{Slot}
 use Rattle.subquery_filter.specs.declared.slots.TypeTest.{TypeTest}
 use Rattle.subquery_filter.specs.declared.token.Token.{Token}
-use Rattle.subquery_filter.specs.Filter.{AreCoded, AreKindBits, AreMarks, AreNumberBits, AreSlots, AreSmall, AreStamps, Covers, Finds, Has, IsSlot, StampMarks, MarksVariable, slot_may}
+use Rattle.subquery_filter.specs.Filter.{AreCoded, AreKindBits, AreMarks, AreNumberBits, AreSlots, AreStamps, Covers, Finds, Has, IsSlot, StampMarks, MarksVariable, TellsSmall, marks_at, slot_may}
 use Rattle.subquery_filter.specs.StepsFilter.{Lacks, ListedUpTo, SlotGives, SlotIs, Stays}
 use Rattle.subquery_filter.specs.StepsLetters.{kind_at, kind_before, kinds_in}
-use Rattle.subquery_filter.proofs.BitLemmas.{has_left, has_right, has_self, has_through}
+use Rattle.subquery_filter.proofs.BitLemmas.{has_and, has_left, has_right, has_self, has_through}
 use Rattle.subquery_filter.proofs.FilterLemmas.{push_got, push_last, slot_stays}
 use Rattle.subquery_filter.proofs.LetterLemmas.{other_byte, same_byte}
-use Rattle.subquery_filter.proofs.TokenLemmas.{kinds_slot}
+use Rattle.subquery_filter.proofs.TokenLemmas.{kinds_byte, kinds_slot}
 
 -- ---- a text that no symbol begins
 
@@ -116,6 +116,22 @@ listed_slot bits text rest after place first known kind symbol old new is same s
     same_kinds : (o : Option Kind) (a b : Kind) → o ≡ Some a → o ≡ Some b → a ≡ b
     same_kinds o a b one two = cc (one, two)
 
+-- the same behind constants that stand there as they are
+pub listed_past : (bits : KindBits) (text rest past : List ℕ) (place first known : ℕ) (slots : List Slot) → kinds_in false past ≡ kinds_in false rest → length past ≤ length rest
+    → ListedUpTo bits text rest place first known slots → ListedUpTo bits text past place first known slots
+listed_past bits text rest past place first known slots same shorter h =
+    record { left = same ∙ h.left; room = omega (arith, shorter, h.room); listed = h.listed }
+
+-- and behind a constant
+pub listed_byte : (bits : KindBits) (text rest after : List ℕ) (place first known : ℕ) (symbol : Symbol) (slots : List Slot) → rest ≡ text_of_symbol symbol ++ after → ((kind : Kind) → symbol ≢ SlotSymbol kind)
+    → ListedUpTo bits text rest place first known slots → ListedUpTo bits text after place first known slots
+listed_byte bits text rest after place first known (Byte b) slots is other h = record {
+  left = sym (kinds_byte b after) ∙ ap (kinds_in false) (sym is) ∙ h.left;
+  room = let longer = symbol_longer (Byte b) after in omega (arith, ap length is, longer, h.room);
+  listed = h.listed;
+}
+listed_byte bits text rest after place first known (SlotSymbol kind) slots is other h = absurd (other kind refl)
+
 pub listed_all : (bits : KindBits) (text rest : List ℕ) (place first known : ℕ) (slots : List Slot) → ((symbol : Symbol) (after : List ℕ) → rest ≢ text_of_symbol symbol ++ after) → ListedUpTo bits text rest place first known slots
     → (tokens : List Token) → AreKindBits tokens bits → AreSlots tokens text slots first (length slots) known
 listed_all bits text rest place first known slots none h tokens are k kind at =
@@ -124,7 +140,7 @@ listed_all bits text rest place first known slots none h tokens are k kind at =
 -- ---- what a row brings by its slots
 
 pub gives_more : (f : Filter) (slot : Slot) (word bits more : ℕ) → Has more bits → SlotGives f slot word bits → SlotGives f slot word more
-gives_more f slot word bits more has gives words variable marks small numbers coded is j d lt m own = has_through more bits _ has (gives words variable marks small numbers coded is j d lt m own)
+gives_more f slot word bits more has gives words variable marks brought small numbers coded is j d lt m own = has_through more bits _ has (gives words variable marks brought small numbers coded is j d lt m own)
 
 pub is_more : (f : Filter) (at : ℕ) (row : List ℕ) (bits more : ℕ) → Has more bits → SlotIs f at row bits → SlotIs f at row more
 is_more f at row bits more has is slot word there here = gives_more f slot word bits more has (is slot word there here)
@@ -142,11 +158,6 @@ slots_step f row first end bits more has here before at from to = elim (cases_lt
 same_slots : (o : Option Slot) (a b : Slot) → o ≡ Some a → o ≡ Some b → a ≡ b
 same_slots o a b one two = cc (one, two)
 
-pub is_covered : (f : Filter) (at : ℕ) (row : List ℕ) (all bits : ℕ) (mine : Slot) → Some mine ≡ slice_get f.slots.items at → Has all bits → Has bits mine.bits → SlotIs f at row all
-is_covered f at row all bits mine got more has slot word there here words variable marks small numbers coded is j d lt m own =
-    let same = same_slots (slice_get f.slots.items at) mine slot (sym got) there in
-    has_through all slot.bits _ (has_through all bits slot.bits more (subst (λ (x : Slot). Has bits x.bits) same has)) own
-
 pub is_given : (f : Filter) (at : ℕ) (row : List ℕ) (all : ℕ) (mine : Slot) → Some mine ≡ slice_get f.slots.items at → ((word : ℕ) → slice_get row mine.place ≡ Some word → SlotGives f mine word all) → SlotIs f at row all
 is_given f at row all mine got gives slot word there here =
     let same = same_slots (slice_get f.slots.items at) mine slot (sym got) there in
@@ -156,14 +167,26 @@ pub gives_short : (f : Filter) (slot : Slot) (row : List ℕ) (all : ℕ) → No
 gives_short f slot row all none word here = absurd (let e : None ≡ Some word = none ∙ here in cc)
 
 pub gives_brought : (f : Filter) (slot : Slot) (row : List ℕ) (all bits w : ℕ) → Some w ≡ slice_get row slot.place → Has all bits
-    → ((words : List (List ℕ)) (variable : List ℕ) → (slot.kind ≡ Word → AreMarks f.tokens.items words f.marks) → AreSmall f.tokens.items f.small.items → AreCoded f.tokens.items → HasWord words slot.kind variable w → MarksVariable f.tokens.items variable bits)
+    → ((words : List (List ℕ)) (variable : List ℕ) → (slot.kind ≡ Word → AreMarks f.tokens.items words f.marks) → TellsSmall f.tokens.items f.small → AreCoded f.tokens.items → HasWord words slot.kind variable w → MarksVariable f.tokens.items variable bits)
     → (word : ℕ) → slice_get row slot.place ≡ Some word → SlotGives f slot word all
-gives_brought f slot row all bits w got more brings word here words variable marks small numbers coded is j d lt m own =
+gives_brought f slot row all bits w got more brings word here words variable marks brought small numbers coded is j d lt m own =
     let word_same : w ≡ word = same_words (slice_get row slot.place) w word (sym got) here in
     has_through all bits _ more (brings words variable marks small coded (subst (λ n. HasWord words slot.kind variable n) (sym word_same) is) j d lt m)
   where
     same_words : (o : Option ℕ) (a b : ℕ) → o ≡ Some a → o ≡ Some b → a ≡ b
     same_words o a b one two = cc (one, two)
+
+-- a slot of a word brings no more than words do
+pub word_brings : (f : Filter) (slot : Slot) (all : ℕ) → slot.kind ≡ Word → Has all (bit_and slot.bits f.brought) → (word : ℕ) → SlotGives f slot word all
+word_brings f slot all kind more word words variable marks brought small numbers coded is j d lt m own =
+    let k : Token = slice_index_or f.tokens.items j d in
+    let there : HasWord words Word variable word = subst (λ (x : Kind). HasWord words x variable word) kind is in
+    let marked : Has f.brought k.bit = has_through f.brought (marks_at f.marks word) k.bit (brought word) (marks kind word variable there.1 j d lt m.0) in
+    has_through all (bit_and slot.bits f.brought) k.bit more (has_and slot.bits f.brought k.bit own marked)
+
+-- no slot brings more than its own bits
+pub own_brings : (f : Filter) (slot : Slot) (all : ℕ) → Has all slot.bits → (word : ℕ) → SlotGives f slot word all
+own_brings f slot all more word words variable marks brought small numbers coded is j d lt m own = has_through all slot.bits _ more own
 
 -- ---- what a segment may bring by its slots
 
@@ -234,8 +257,8 @@ lacks_numbers f test row may bits more dictionary may_is lacks =
     record {
       bits = bits;
       has = known;
-      slots = λ at from to slot word there here words variable marks small numbers coded is j d lt m own.
-          by_kind by_numbers slot words variable word (slice_index_or f.tokens.items j d).bit numbers is (λ w. dictionary at from to slot there w slot word there here words variable marks small numbers coded is j d lt m own) j d lt m refl;
+      slots = λ at from to slot word there here words variable marks brought small numbers coded is j d lt m own.
+          by_kind by_numbers slot words variable word (slice_index_or f.tokens.items j d).bit numbers is (λ w. dictionary at from to slot there w slot word there here words variable marks brought small numbers coded is j d lt m own) j d lt m refl;
       stamp = λ stamps s stamped j d lt lies.
           has_through bits may (slice_index_or f.tokens.items j d).bit by_stamp (subst (λ (n : ℕ). StampMarks f.tokens.items s n) (sym may_is) (stamps row.pattern row.moment s stamped) j d lt lies);
       lacks = lacks;
@@ -254,24 +277,3 @@ number_bits tokens kinds are Word other words variable word is j d lt finds = ab
 number_bits tokens kinds are Whole other words variable word is j d lt finds = has_left kinds.whole kinds.decimal _ (are.whole words variable word is j d lt finds)
 number_bits tokens kinds are Decimal other words variable word is j d lt finds =
     has_through (bit_or kinds.whole kinds.decimal) kinds.decimal _ (has_right kinds.whole kinds.decimal) (are.decimal words variable word is j d lt finds)
-
--- these bits, and those that variables may bring
-pub kinds_more : (kinds : KindBits) (known : ℕ) → Has (bit_or (bit_or (bit_or known kinds.whole) kinds.decimal) kinds.word) known
-kinds_more kinds known =
-    let one : ℕ = bit_or known kinds.whole in
-    let two : ℕ = bit_or one kinds.decimal in
-    has_left two kinds.word known (has_left one kinds.decimal known (has_left known kinds.whole known (has_self known)))
-
-pub kinds_with : (tokens : List Token) (kinds : KindBits) (known : ℕ) → AreKindBits tokens kinds → (kind : Kind) → Covers tokens kind (bit_or (bit_or (bit_or known kinds.whole) kinds.decimal) kinds.word)
-kinds_with tokens kinds known are Whole words variable word is j d lt finds =
-    let one : ℕ = bit_or known kinds.whole in
-    let two : ℕ = bit_or one kinds.decimal in
-    has_left two kinds.word _ (has_left one kinds.decimal _ (has_through one kinds.whole _ (has_right known kinds.whole) (are.whole words variable word is j d lt finds)))
-kinds_with tokens kinds known are Decimal words variable word is j d lt finds =
-    let one : ℕ = bit_or known kinds.whole in
-    let two : ℕ = bit_or one kinds.decimal in
-    has_left two kinds.word _ (has_through two kinds.decimal _ (has_right one kinds.decimal) (are.decimal words variable word is j d lt finds))
-kinds_with tokens kinds known are Word words variable word is j d lt finds =
-    let one : ℕ = bit_or known kinds.whole in
-    let two : ℕ = bit_or one kinds.decimal in
-    has_through (bit_or two kinds.word) kinds.word _ (has_right two kinds.word) (are.word words variable word is j d lt finds)

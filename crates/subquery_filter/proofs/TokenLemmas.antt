@@ -1,7 +1,8 @@
 -- A token of the pattern stands in a row's stamp, among the constant bytes of its log type, or in the text of a
 -- variable.
 use Rattle.std.proofs.Common.{◌≡◌, ℕ, zero, suc, Bool, true, false, cond, List, [], ◌∷◌, ◌++◌, length, map, refl, sym, ◌∙◌, ap, subst, inl, inr}
-use Rattle.std.specs.Prelude.{◌⊎◌, Option, Some, slice_get}
+use Rattle.std.specs.Prelude.{◌⊎◌, All, Option, Some, slice_get}
+use Rattle.std.proofs.lemmas.List.Elements.{All-head, All-tail}
 use Rattle.time_patterns.specs.Stamps.{HasStamp}
 use Rattle.logtype_text.specs.declared.symbols.Kind.{Kind}
 use Rattle.logtype_text.specs.declared.symbols.Kind.TheVariants.{Whole, Word, Decimal}
@@ -27,6 +28,13 @@ kinds_by true b after is = ap (λ t. cond t (kinds_in false after) []) is
 kinds_by false b after is =
     ap (λ t. cond t (kinds_in true after) (kind_before (kind_at b) (kinds_in false after))) (no_escape b is)
     ∙ ap (λ k. kind_before k (kinds_in false after)) (no_kind b is)
+
+-- constants that stand in a text as they are
+pub kinds_plain : (bytes rest : List ℕ) → All (λ b. is_escaped b ≡ false) bytes → kinds_in false (bytes ++ rest) ≡ kinds_in false rest
+kinds_plain [] rest plain = refl
+kinds_plain (b ∷ bytes) rest plain =
+    kinds_by false b (bytes ++ rest) (All-head (λ b. is_escaped b ≡ false) b bytes plain)
+    ∙ kinds_plain bytes rest (All-tail (λ b. is_escaped b ≡ false) b bytes plain)
 
 pub kinds_byte : (b : ℕ) (after : List ℕ) → kinds_in false (text_of_symbol (Byte b) ++ after) ≡ kinds_in false after
 kinds_byte b after = kinds_by (is_escaped b) b after refl

@@ -24,6 +24,7 @@ use Rattle.subquery_filter.specs.declared.slots.Beside.{Beside}
 use Rattle.subquery_filter.specs.declared.slots.Slot.{Slot}
 use Rattle.subquery_filter.specs.declared.slots.KindBits.{KindBits}
 use Rattle.subquery_filter.specs.declared.slots.TypeTest.{TypeTest}
+use Rattle.subquery_filter.specs.declared.small.SmallNumbers.{SmallNumbers}
 use Rattle.subquery_filter.specs.declared.token.Token.{Token}
 use Rattle.subquery_filter.specs.declared.verdicts.Verdict.{Verdict}
 use Rattle.subquery_filter.specs.declared.verdicts.Verdict.TheVariants.{Rejected, Certain, Tried}
@@ -45,7 +46,7 @@ Marks tokens text bits = All (λ k. Match k.matcher.items text → Has bits k.bi
 abbrev pub StampMarks : List Token → List ℕ → ℕ → Type 0
 StampMarks tokens s bits = All (λ k. LiesInStamp k.chunk k.text s → Has bits k.bit) tokens
 
--- the token may be in a variable with this text: it stands in it, and is all of it where it is a closed number
+-- the token may be in a variable with this text: it stands in it, and is all of it where it is a closed variable
 abbrev pub Finds : Token → List ℕ → Type 0
 Finds k text = Match k.matcher.items text × ((code : Coded) → k.closed ≡ Some code → text ≡ k.text)
 
@@ -53,11 +54,11 @@ Finds k text = Match k.matcher.items text × ((code : Coded) → k.closed ≡ So
 abbrev pub MarksVariable : List Token → List ℕ → ℕ → Type 0
 MarksVariable tokens text bits = All (λ k. Finds k text → Has bits k.bit) tokens
 
--- the same of the tokens that are no closed numbers
+-- the same of the tokens that are no closed variables
 abbrev pub MarksOpen : List Token → List ℕ → ℕ → Type 0
 MarksOpen tokens text bits = All (λ k. k.closed ≡ None → Match k.matcher.items text → Has bits k.bit) tokens
 
--- a closed number is kept with what it is stored as
+-- a closed variable is kept with what it is stored as
 abbrev pub AreCoded : List Token → Type 0
 AreCoded tokens = All (λ k. (code : Coded) → k.closed ≡ Some code → Codes k.text code) tokens
 
@@ -92,9 +93,18 @@ marks_at marks n = slice_index_or marks.table.items (bit_and n marks.mask) 0
 abbrev pub AreMarks : List Token → List (List ℕ) → WordMarks → Type 0
 AreMarks tokens words marks = (n : ℕ) (text : List ℕ) → slice_get words n ≡ Some text → Marks tokens text (marks_at marks n)
 
--- the marks of the whole numbers whose words are small stand at their words, without those of closed numbers
+-- the marks of the whole numbers whose words are small stand at their words, without those of closed variables
 abbrev pub AreSmall : List Token → List ℕ → Type 0
 AreSmall tokens small = (n bits : ℕ) → slice_get small n ≡ Some bits → MarksOpen tokens (signed_decimal (cast_signed w64 n)) bits
+
+-- no token stands in a whole number whose word is below this, but for closed variables
+abbrev pub IsLeast : List Token → ℕ → Type 0
+IsLeast tokens least = (n : ℕ) → n < least → MarksOpen tokens (signed_decimal (cast_signed w64 n)) 0
+
+-- what is told of whole numbers by their words is right
+pub record TellsSmall (tokens : List Token) (small : SmallNumbers) : Type 0 where
+  pub least : IsLeast tokens small.least
+  pub marks : AreSmall tokens small.marks.items
 
 -- what each pattern's stamps may bring stands at its number
 abbrev pub AreStamps : List Token → List ℕ → Type 0
@@ -215,7 +225,7 @@ AreTold f verdicts =
 
 -- ---- the filter
 
--- a token of the pieces, with the text that stands around it there, and closed where it is kept as a closed number
+-- a token of the pieces, with the text that stands around it there, and closed where it is kept as a closed variable
 pub record IsAsked (ps : List Piece) (k : Token) : Type 0 where
   pub token : IsTokenOf ps k.matcher.items
   pub runs : k.closed ≡ None → IsInRun ps k.text k.chunk
@@ -240,7 +250,7 @@ pub record AsksTypes (ps : List Piece) (types : List (List ℕ)) (f : Filter) : 
   pub told : AreTold f f.verdicts.items
   pub brought : (n : ℕ) → Has f.brought (marks_at f.marks n)
   pub numbers : AreNumberBits f.tokens.items f.numbers
-  pub small : AreSmall f.tokens.items f.small.items
+  pub small : TellsSmall f.tokens.items f.small
   pub stamps : AreStamps f.tokens.items f.stamps.items
   pub stamped : (pattern : ℕ) → Has f.stamped (slice_index_or f.stamps.items pattern 0)
   pub runs : AreRuns ps f.runs.items

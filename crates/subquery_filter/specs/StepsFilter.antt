@@ -1,10 +1,13 @@
 -- What the parts of a filter tell each other.
-use Rattle.std.specs.Prelude.{◌≡◌, ◌≢◌, ◌⊎◌, ◌+◌, ◌++◌, ◌<◌, ◌≤◌, ℕ, ℤ, false, List, [], All, Some, bit_and, drop, length, slice_get, slice_index_or}
+use Rattle.std.specs.Prelude.{◌≡◌, ◌≢◌, ◌⊎◌, ◌+◌, ◌++◌, ◌<◌, ◌≤◌, ℕ, ℤ, false, List, [], All, None, Some, bit_and, drop, length, slice_get, slice_index_or}
 use Rattle.std.specs.List.{Contains}
+use Rattle.std.specs.Fmt.{signed_decimal}
+use Rattle.std.specs.Int.{cast_signed, w64}
 use Rattle.column_store.specs.declared.row.Row.{Row}
 use Rattle.var_codec.specs.declared.Coded.{Coded}
 use Rattle.logtype_text.specs.declared.symbols.Kind.{Kind}
 use Rattle.logtype_text.specs.declared.symbols.Kind.TheVariants.{Word}
+use Rattle.wild_match.specs.Matches.{Match}
 use Rattle.row_codec.specs.Means.{HasStampText, HasWord}
 use Rattle.segment_format.specs.declared.head.Head.{Head}
 use Rattle.query_plan.specs.declared.pieces.Piece.{Piece}
@@ -16,7 +19,7 @@ use Rattle.subquery_filter.specs.declared.slots.Slot.{Slot}
 use Rattle.subquery_filter.specs.declared.slots.TypeTest.{TypeTest}
 use Rattle.subquery_filter.specs.declared.token.Token.{Token}
 use Rattle.subquery_filter.specs.declared.verdicts.Verdict.TheVariants.{Rejected, Tried}
-use Rattle.subquery_filter.specs.Filter.{AreCoded, AreKindBits, AreMarks, AreNumberBits, AreRunStamps, AreSmall, AreStamps, Finds, Has, IsAsked, IsSlot, IsWithin, LacksAll, LacksRuns, RunMarks, StampMarks, marks_at}
+use Rattle.subquery_filter.specs.Filter.{AreCoded, AreKindBits, AreMarks, AreNumberBits, AreRunStamps, AreStamps, Finds, Has, IsAsked, IsSlot, IsWithin, LacksAll, LacksRuns, RunMarks, StampMarks, TellsSmall, marks_at}
 use Rattle.subquery_filter.specs.StepsLetters.{kinds_in}
 use Rattle.subquery_filter.specs.Tokens.{IsClosed}
 
@@ -57,6 +60,12 @@ pub record ListedUpTo (bits : KindBits) (text rest : List ℕ) (place first know
       (tokens : List Token) → AreKindBits tokens bits → (k : ℕ) (kind : Kind) → k < place
       → slice_get (kinds_in false text) k ≡ Some kind → IsSlot tokens slots first (length slots) known k kind
 
+-- ---- digits
+
+-- the token is a closed variable, or stands in no whole number whose word is below this
+abbrev pub NoneBelow : Token → ℕ → Type 0
+NoneBelow k least = (n : ℕ) → n < least → k.closed ≡ None → ¬ Match k.matcher.items (signed_decimal (cast_signed w64 n))
+
 -- ---- what is tested of a row
 
 -- the bit of each token that may stand in the slot, and stands in the text of this word there, is among
@@ -64,7 +73,8 @@ pub record ListedUpTo (bits : KindBits) (text rest : List ℕ) (place first know
 abbrev pub SlotGives : Filter → Slot → ℕ → ℕ → Type 0
 SlotGives f slot word bits =
     (words : List (List ℕ)) (variable : List ℕ) → (slot.kind ≡ Word → AreMarks f.tokens.items words f.marks)
-    → AreSmall f.tokens.items f.small.items → AreNumberBits f.tokens.items f.numbers → AreCoded f.tokens.items
+    → ((n : ℕ) → Has f.brought (marks_at f.marks n)) → TellsSmall f.tokens.items f.small
+    → AreNumberBits f.tokens.items f.numbers → AreCoded f.tokens.items
     → HasWord words slot.kind variable word
     → All (λ k. Finds k variable → Has slot.bits k.bit → Has bits k.bit) f.tokens.items
 

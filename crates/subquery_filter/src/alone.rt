@@ -7,6 +7,7 @@ ghost use Rattle.subquery_filter.specs.Tokens.{GoesOnAt, MayGoOn, MayStandIn};
 use crate::beside::pass_piece;
 use crate::run::Run;
 use crate::tokens::bit_behind;
+use memchr::memchr3;
 use plain_list::Text;
 use query_plan::{Piece, may_begin, may_stand};
 use std::alloc::{AllocError, Global};
@@ -20,7 +21,22 @@ fn goes_on(pieces: &[Piece], place: usize) -> bool {
     }
 }
 
-/// Appends the run with this text, where one ends before a place.
+/// Whether a run with this text is there.
+fn has_run(runs: &[Run], text: &[u8]) -> bool {
+    for run in runs {
+        if run.text.as_slice() == text {
+            return true;
+        }
+    }
+    false
+}
+
+/// Whether no byte of a text is a delimiter.
+fn is_within_token(text: &[u8]) -> bool {
+    !text.iter().any(|byte| is_delim(*byte))
+}
+
+/// Appends the run with this text, where one ends before a place. Of runs with one text the first is kept.
 fn push_run(
     alloc: Global,
     runs: &mut Vec<Run>,
@@ -31,12 +47,17 @@ fn push_run(
     requires { EndsRun (take place pieces.now) text.now }
     ensures { OnOk result (AreRuns pieces.now runs.old.items → AreRuns pieces.now runs.new.items) }
 {
-    if text.is_empty() || goes_on(pieces, place) {
+    if text.is_empty() || goes_on(pieces, place) || has_run(runs.as_slice(), text) {
         return Ok(());
     }
     let bit = bit_behind(runs.len());
+    let within_token = is_within_token(text);
     let text = Text::new(Vec::from_slice(alloc, text)?);
-    runs.push(Run { text, bit })?;
+    runs.push(Run {
+        text,
+        bit,
+        within_token,
+    })?;
     Ok(())
 }
 
@@ -81,11 +102,20 @@ fn may_stand_in(run: &[u8], log_type: &[u8]) -> bool
     may_stand(run, log_type)
 }
 
-/// The bit of a run that may neither stand in a body of the log type nor go on there.
+/// Whether a log type has a byte of a placeholder, which is mostly that of a slot.
+fn may_have_slot(log_type: &[u8]) -> bool {
+    memchr3(0x11, 0x12, 0x13, log_type).is_some()
+}
+
+/// The bit of a run that may neither stand in a body of the log type nor go on there. One without a
+/// delimiter may stand in any slot.
 fn alone_bit(run: &Run, log_type: &[u8]) -> u8
     ensures { (may : ℕ) → (¬ MayStandIn run.now.text log_type.now
         → ¬ MayGoOn run.now.text log_type.now → Has may run.now.bit) → Has may result }
 {
+    if run.within_token && may_have_slot(log_type) {
+        return 0;
+    }
     let text = run.text.as_slice();
     if may_go_on(text, log_type) || may_stand_in(text, log_type) {
         return 0;
@@ -101,6 +131,15 @@ pub(crate) fn alone_of(runs: &[Run], log_type: &[u8]) -> u8
     let mut bits = 0;
     for run in runs {
         bits |= alone_bit(run, log_type);
+    }
+    bits
+}
+
+/// The bits of all runs.
+pub(crate) fn run_bits(runs: &[Run]) -> u8 {
+    let mut bits = 0;
+    for run in runs {
+        bits |= run.bit;
     }
     bits
 }

@@ -3,11 +3,11 @@ ghost use Rattle.std.specs.Prelude.{◌≡◌, ◌≤◌, ◌<◌, ◌++◌, ◌
 ghost use Rattle.query_plan.specs.declared.pieces.Piece.{Piece};
 ghost use Rattle.query_plan.specs.declared.pieces.Piece.TheVariants.{Word};
 ghost use Rattle.query_plan.specs.Laws.{NoGap, chunk_text};
-ghost use Rattle.subquery_filter.specs.declared.tokens.ClosedNumber.{ClosedNumber};
+ghost use Rattle.subquery_filter.specs.declared.tokens.ClosedVariable.{ClosedVariable};
 ghost use Rattle.subquery_filter.specs.StepsFilter.{AddsRun, EndsRun};
 ghost use Rattle.subquery_filter.specs.Tokens.{IsInRun};
 
-use crate::tokens::ClosedNumber;
+use crate::tokens::ClosedVariable;
 use plain_list::Text;
 use query_plan::Piece;
 use std::alloc::{AllocError, Global};
@@ -70,36 +70,36 @@ fn run_text(
     Ok(Text::new(text))
 }
 
-/// The text of a closed number with its delimiters.
-fn closed_text(alloc: Global, number: ClosedNumber, token: &[u8]) -> Result<Text, AllocError>
-    ensures { IfOk result (λ w. w ≡ number.before ∷ (token.now ++ number.behind ∷ [])) }
+/// The text of a closed variable with its delimiters.
+fn closed_text(alloc: Global, variable: ClosedVariable, token: &[u8]) -> Result<Text, AllocError>
+    ensures { IfOk result (λ w. w ≡ variable.before ∷ (token.now ++ variable.behind ∷ [])) }
 {
     let mut text = Vec::new(alloc);
-    text.push(number.before)?;
+    text.push(variable.before)?;
     text.extend_from_slice(token)?;
-    text.push(number.behind)?;
+    text.push(variable.behind)?;
     Ok(Text::new(text))
 }
 
-/// The text that stands around the token at a place: of a closed number that with its delimiters, and of
-/// another token that of the pieces up to the gaps on both sides.
+/// The text that stands around the token at a place: of a closed variable that with its delimiters, and
+/// of another token that of the pieces up to the gaps on both sides.
 pub(crate) fn text_around(
     alloc: Global,
     pieces: &[Piece],
     place: usize,
     token: &[u8],
     front: &[u8],
-    number: Option<ClosedNumber>,
+    variable: Option<ClosedVariable>,
 ) -> Result<Text, AllocError>
     requires here { slice_get pieces.now place ≡ Some (Word token.now) }
     requires within { place < length pieces.now }
     requires front { EndsRun (take place pieces.now) front.now }
-    ensures runs { IfOk result (λ w. number ≡ None → IsInRun pieces.now token.now w) }
-    ensures closed { IfOk result (λ w. (n : ClosedNumber) → number ≡ Some n
+    ensures runs { IfOk result (λ w. variable ≡ None → IsInRun pieces.now token.now w) }
+    ensures closed { IfOk result (λ w. (n : ClosedVariable) → variable ≡ Some n
         → w ≡ n.before ∷ (token.now ++ n.behind ∷ [])) }
 {
-    match number {
-        Some(number) => closed_text(alloc, number, token),
+    match variable {
+        Some(variable) => closed_text(alloc, variable, token),
         None => run_text(alloc, pieces, place, token, front),
     }
 }

@@ -10,22 +10,23 @@ ghost use Rattle.query_plan.specs.Pieces.{wide_pieces};
 ghost use Rattle.query_plan.specs.declared.pieces.Piece.{Piece};
 ghost use Rattle.subquery_filter.specs.declared.filter.Filter.{Filter};
 ghost use Rattle.subquery_filter.specs.declared.slots.Slot.{Slot};
-ghost use Rattle.subquery_filter.specs.Filter.{AreCoded, AreMarks, AreSmall, AreStamps, AreTold, AsksTypes, Has, HasNoMatch, IsFilter, IsRowVerdict, IsTold, LacksAll, MarksVariable, StampMarks, beside_of, slot_may};
+ghost use Rattle.subquery_filter.specs.Filter.{AreCoded, AreMarks, AreStamps, AreTold, AsksTypes, Has, HasNoMatch, IsFilter, IsRowVerdict, IsTold, LacksAll, MarksVariable, StampMarks, TellsSmall, beside_of, slot_may};
 ghost use Rattle.subquery_filter.specs.declared.verdicts.Verdict.TheVariants.{Certain};
 ghost use Rattle.subquery_filter.specs.Found.{HaveAll};
 ghost use Rattle.subquery_filter.specs.Page.{IsPage};
 ghost use Rattle.subquery_filter.specs.StepsFilter.{HasEach, IsShut, Lacks, LacksStamp, LacksTokens, RunsBring, SlotGives, SlotIs, StampsBring};
 
-use crate::alone::runs_of;
+use crate::alone::{run_bits, runs_of};
 use crate::bits::{any_of, has, mark_at};
 use crate::laws::{rows_bring_chunks, rows_bring_runs, verdicts_hold};
 use crate::marks::WordMarks;
 use crate::needles::{lists_with, texts_of};
-use crate::numbers::{decimal_bits, has_open, kind_bits, mark_small, whole_bits};
+use crate::numbers::{decimal_bits, kind_bits, whole_bits};
 use crate::run::Run;
-use crate::run_stamps::{mark_runs, runs_within};
+use crate::run_stamps::{mark_runs, runs_within, stamp_runs};
 use crate::shared::PageTests;
-use crate::slots::{Beside, Question, Slot, TypeTest, has_kind, test_types};
+use crate::slots::{Beside, Question, Slot, TypeTest, test_types};
+use crate::small::{SmallNumbers, small_needed};
 use crate::stamps::{bits_within, mark_stamps, stamp_bits};
 use crate::token::Token;
 use crate::tokens::{all_bits, stored_text, tokens_of};
@@ -64,8 +65,8 @@ pub struct Filter {
     brought: u8,
     /// The bits that numbers may bring.
     numbers: u8,
-    /// The bits of small whole numbers, where a slot of a whole number is listed.
-    small: Vec<u8>,
+    /// What is told of whole numbers by their words.
+    small: SmallNumbers,
     /// The bits that stamps may bring, by the numbers of their patterns, and those of all patterns.
     stamps: Vec<u8>,
     stamped: u8,
@@ -88,18 +89,6 @@ fn bits_of_list(marks: &WordMarks, numbers: &[u32]) -> u8
         bits |= marks.at(u64::from(*number));
     }
     bits
-}
-
-/// The bits of small whole numbers where a slot of a whole number is listed, and a token may stand in its
-/// digits; and none otherwise.
-fn small_needed(alloc: Global, slots: &[Slot], tokens: &[Token]) -> Result<Vec<u8>, AllocError>
-    ensures { IfOk result (λ small. AreSmall tokens.now small.items) }
-{
-    if !has_kind(slots, Kind::Whole) || !has_open(tokens) {
-        return Ok(Vec::new(alloc));
-    }
-    let small = mark_small(alloc, tokens)?;
-    Ok(small)
 }
 
 /// The longest run of literal bytes of the pattern that a search is planned over, as log types store
@@ -134,6 +123,7 @@ impl Filter {
         let runs = runs_of(alloc, pieces)?;
         let run_stamps = mark_runs(alloc, runs.as_slice())?;
         let run_stamped = any_of(run_stamps.as_slice());
+        let small = SmallNumbers::none(alloc);
         Ok(Filter {
             tokens,
             wanted,
@@ -144,7 +134,7 @@ impl Filter {
             marks: WordMarks::none(alloc),
             brought: wanted,
             numbers: kinds.whole | kinds.decimal,
-            small: Vec::new(alloc),
+            small,
             stamps,
             stamped,
             runs,
@@ -258,14 +248,16 @@ impl Filter {
             → IsFilter plan.now (N.types names.now) words f) }
     {
         let looked = self.tokens.as_slice();
-        let run = longest_run(alloc, plan)?;
+        let runs = self.runs.as_slice();
+        let longest = longest_run(alloc, plan)?;
         let question = Question {
             kinds: kind_bits(looked),
             beside: self.beside(),
-            run: Finder::new(run.as_slice()),
+            longest: Finder::new(longest.as_slice()),
+            tokens: all_bits(looked),
+            runs: run_bits(runs),
             stamped: self.run_stamped,
         };
-        let runs = self.runs.as_slice();
         let mut slots = Vec::new(alloc);
         let mut tests = Vec::new(alloc);
         let mut alone = Vec::new(alloc);
@@ -315,14 +307,14 @@ impl Filter {
     fn variable_bits(&self, kind: Kind, word: u64) -> u8
         ensures { (words : List (List ℕ)) (variable : List ℕ)
             → (kind ≡ Word → AreMarks self.now.tokens.items words self.now.marks)
-            → AreSmall self.now.tokens.items self.now.small.items
+            → TellsSmall self.now.tokens.items self.now.small
             → AreCoded self.now.tokens.items → HasWord words kind variable word
             → MarksVariable self.now.tokens.items variable result }
     {
         match kind {
             Kind::Word => self.marks.at(word),
-            Kind::Whole => whole_bits(self.tokens.as_slice(), self.small.as_slice(), word),
-            Kind::Decimal => decimal_bits(self.tokens.as_slice(), self.small.as_slice(), word),
+            Kind::Whole => whole_bits(self.tokens.as_slice(), &self.small, word),
+            Kind::Decimal => decimal_bits(self.tokens.as_slice(), &self.small, word),
         }
     }
 
@@ -338,6 +330,17 @@ impl Filter {
         }
     }
 
+    /// The bits that a row may bring by a slot. By one of a word it brings no more than words do.
+    #[inline]
+    fn may_bring(&self, slot: Slot) -> u8
+        ensures { (all : ℕ) → Has all result → (word : ℕ) → SlotGives self.now slot word all }
+    {
+        match slot.kind {
+            Kind::Word => slot.bits & self.brought,
+            Kind::Whole | Kind::Decimal => slot.bits,
+        }
+    }
+
     /// The bits that a row brings by the slot that is listed at a place, beyond those that it has.
     #[inline]
     fn slot_bits(&self, at: usize, words: &[u64], bits: u8) -> u8
@@ -346,7 +349,7 @@ impl Filter {
         let Some(slot) = self.slot_at(at) else {
             return 0;
         };
-        if has(bits, slot.bits) {
+        if has(bits, self.may_bring(slot)) {
             return 0;
         }
         self.word_bits(slot, words)
@@ -460,20 +463,48 @@ impl Filter {
         self.verdicts.get(number as usize).copied()
     }
 
-    /// Whether a row does not bring all tokens. Where its log type and all stamps of the page bring
-    /// them, neither its variables nor its stamp are looked at.
+    /// Whether a run that the row's log type leaves to stamps does not stand in the row's own, which is
+    /// printed.
+    #[inline]
+    fn lacks_own_run(&self, row: RowRef<'_>, page: &mut PageTests) -> bool
+        ensures lacks { IsTrue result → LacksStamp self.now (row_of row.entry) }
+        ensures kept { page.new.spans ≡ page.old.spans }
+    {
+        let alone = self.alone_at(u64::from(row.log_type));
+        if alone == 0 {
+            return false;
+        }
+        let own = mark_at(self.run_stamps.as_slice(), u64::from(row.pattern));
+        let bits = stamp_runs(
+            self.runs.as_slice(),
+            own,
+            row.pattern,
+            row.moment,
+            &mut page.printer,
+        );
+        !has(bits, alone)
+    }
+
+    /// Whether a row does not bring all tokens, or a run that its log type leaves to stamps. Where all
+    /// stamps of the page bring the tokens, neither its variables nor its stamp are looked at; and where
+    /// its log type brings them, its variables are not.
     #[inline]
     fn lacks_tokens(&self, row: RowRef<'_>, page: &mut PageTests) -> bool
-        ensures lacks { IsTrue result → LacksTokens self.now (row_of row.entry) }
+        ensures lacks { IsTrue result → LacksStamp self.now (row_of row.entry)
+            ⊎ LacksTokens self.now (row_of row.entry) }
         ensures kept { page.new.spans ≡ page.old.spans }
     {
         let Some(test) = self.test_at(row.log_type) else {
             return false;
         };
-        if has(test.has | page.shared(row.pattern), self.wanted) {
+        let shared = page.shared(row.pattern);
+        if has(shared, self.wanted) {
             return false;
         }
-        self.lacks(&test, row, page)
+        if has(test.has, self.wanted) {
+            return self.lacks_own_run(row, page);
+        }
+        !has(test.has | shared, self.wanted) && self.lacks(&test, row, page)
     }
 
     /// Whether a run that the row's log type leaves to stamps stands in no stamp of the row's pattern, of the

@@ -25,6 +25,7 @@ mod runs;
 mod shared;
 mod short_text;
 mod slots;
+mod small;
 mod stamps;
 mod token;
 mod tokens;

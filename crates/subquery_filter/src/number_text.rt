@@ -31,12 +31,20 @@ pub(crate) fn is_digits(mut point: bool, text: &[u8]) -> bool
     true
 }
 
-/// Whether a token with this text, which is stored so where it is a closed number, is none and may stand
-/// in the text of a number.
+/// Whether a token with this text, which is stored so where it is a closed variable, is none and may
+/// stand in the text of a number.
 pub(crate) fn is_open(closed: Option<Coded>, text: &[u8]) -> bool
     ensures { IsFalse result → closed ≡ None → is_number_part true text.now ≡ false }
 {
     closed.is_none() && is_digits(true, unsigned(text))
+}
+
+/// Whether a token with this text, which is stored so where it is a closed variable, is none and may
+/// stand in the text of a whole number without a sign.
+pub(crate) fn is_open_whole(closed: Option<Coded>, text: &[u8]) -> bool
+    ensures { IsFalse result → closed ≡ None → is_digits false text.now ≡ false }
+{
+    closed.is_none() && is_digits(false, text)
 }
 
 /// Whether a text is digits alone, the first of which is no zero.

@@ -1,7 +1,5 @@
 //! Which tokens stand in the texts of numbers.
-ghost use Rattle.std.specs.Prelude.{◌≡◌, ℕ, List, ◌/◌, ◌%◌, ◌^◌, All, IfOk, IsFalse, IsTrue, None, Some, false, slice_get, true};
-ghost use Rattle.std.specs.Fmt.{signed_decimal};
-ghost use Rattle.std.specs.Int.{cast_signed, w64};
+ghost use Rattle.std.specs.Prelude.{◌≡◌, ℕ, List, ◌/◌, ◌%◌, ◌^◌, All, IsFalse, IsTrue, None, Some, false, true};
 ghost use Rattle.var_codec.specs.Codes.{Codes};
 ghost use Rattle.var_codec.specs.declared.Coded.{Coded};
 ghost use Rattle.var_codec.specs.declared.Coded.TheVariants.{Decimal as DecimalWord};
@@ -9,24 +7,21 @@ ghost use Rattle.logtype_text.specs.declared.symbols.Kind.TheVariants.{Whole};
 ghost use Rattle.wild_match.specs.Matches.{Match};
 ghost use Rattle.row_codec.specs.Means.{HasWord};
 ghost use Rattle.query_plan.specs.Needs.{around};
-ghost use Rattle.subquery_filter.specs.Filter.{AreCoded, AreKindBits, AreSmall, Covers, Finds, MarksOpen, MarksVariable};
+ghost use Rattle.subquery_filter.specs.Filter.{AreCoded, AreKindBits, Covers, Finds, MarksOpen, MarksVariable, TellsSmall};
 ghost use Rattle.subquery_filter.specs.NumberText.{is_number_part, is_plain};
 
 use crate::number_text::{is_digits, unsigned};
 use crate::slots::KindBits;
+use crate::small::{SmallNumbers, whole_marks};
 use crate::token::Token;
 use crate::tokens::{coded_bits, open_marks};
 use logtype_text::Kind;
-use std::alloc::{AllocError, Global};
-use var_codec::{Coded, decimal_ok, decimal_text, one_word, whole_text};
-
-/// How many whole numbers have their marks in a table.
-const SMALL: u64 = 65_536;
+use var_codec::{Coded, decimal_ok, decimal_text, one_word};
 
 /// The bits of a decimal's word that are the number of its digits.
 const NUMBER: u64 = (1 << 54) - 1;
 
-/// Whether a token that is no closed number may stand in a variable of this kind.
+/// Whether a token that is no closed variable may stand in a variable of this kind.
 fn may_stand(text: &[u8], kind: Kind) -> bool
     ensures { (words : List (List ℕ)) (variable : List ℕ) (word : ℕ)
         → HasWord words kind variable word → Match (around text.now) variable → result ≡ true }
@@ -95,7 +90,7 @@ pub(crate) fn kind_bits(tokens: &[Token]) -> KindBits
     }
 }
 
-/// Whether some token that is no closed number may stand in the text of a number, one with a point or
+/// Whether some token that is no closed variable may stand in the text of a number, one with a point or
 /// without. Where none does, no digits have to be looked at.
 pub(crate) fn has_open(tokens: &[Token]) -> bool
     ensures { IsFalse result → All (λ k. k.closed ≡ None
@@ -109,7 +104,7 @@ pub(crate) fn has_open(tokens: &[Token]) -> bool
     false
 }
 
-/// Whether a token is no closed number, and may stand in the text of a number.
+/// Whether a token is no closed variable, and may stand in the text of a number.
 #[inline]
 fn is_open_number(token: &Token) -> bool
     ensures { IsFalse result → token.now.closed ≡ None
@@ -118,54 +113,23 @@ fn is_open_number(token: &Token) -> bool
     token.numeric
 }
 
-/// The bits of the tokens, but for closed numbers, that stand in the text of a whole number.
-#[inline(never)]
-fn whole_marks(tokens: &[Token], word: u64) -> u8
-    ensures { MarksOpen tokens.now (signed_decimal (cast_signed w64 word)) result }
-{
-    let mut digits = [0; 20];
-    let len = whole_text(word.cast_signed(), &mut digits);
-    open_marks(tokens, &digits[..len])
-}
-
-/// The marks of the whole numbers whose words are small.
-pub(crate) fn mark_small(alloc: Global, tokens: &[Token]) -> Result<Vec<u8>, AllocError>
-    ensures { IfOk result (λ small. AreSmall tokens.now small.items) }
-{
-    let mut small = Vec::new(alloc);
-    for word in 0..SMALL {
-        small.push(whole_marks(tokens, word))?;
-    }
-    Ok(small)
-}
-
-/// The bits of the tokens, but for closed numbers, that stand in the text of a whole number: by the table
-/// where it is small.
-fn open_whole(tokens: &[Token], small: &[u8], word: u64) -> u8
-    ensures { AreSmall tokens.now small.now
-        → MarksOpen tokens.now (signed_decimal (cast_signed w64 word)) result }
-{
-    let place = word as usize;
-    if place < small.len() {
-        small[place]
-    } else {
-        whole_marks(tokens, word)
-    }
-}
-
-/// The bits of the tokens that are in a whole number.
+/// The bits of the tokens that are in a whole number. Its digits are looked at only where its word does
+/// not tell them.
 #[inline]
-pub(crate) fn whole_bits(tokens: &[Token], small: &[u8], word: u64) -> u8
-    ensures { AreSmall tokens.now small.now → AreCoded tokens.now → (words : List (List ℕ))
+pub(crate) fn whole_bits(tokens: &[Token], small: &SmallNumbers, word: u64) -> u8
+    ensures { TellsSmall tokens.now small.now → AreCoded tokens.now → (words : List (List ℕ))
         → (variable : List ℕ) → HasWord words Whole variable word
         → MarksVariable tokens.now variable result }
 {
     one_word();
     let exact = coded_bits(tokens, Coded::Whole(word.cast_signed()));
+    if let Some(bits) = small.bits_of(word) {
+        return exact | bits;
+    }
     if !has_open(tokens) {
         return exact;
     }
-    exact | open_whole(tokens, small, word)
+    exact | whole_marks(tokens, word)
 }
 
 /// Whether no token may stand in the text of a decimal but such as are digits alone, the first of which is no
@@ -195,7 +159,7 @@ fn is_pointed(token: &Token) -> bool
     token.numeric
 }
 
-/// The bits of the tokens, but for closed numbers, that stand in the text of a decimal, by its digits.
+/// The bits of the tokens, but for closed variables, that stand in the text of a decimal, by its digits.
 #[inline(never)]
 fn printed_decimal(tokens: &[Token], word: u64) -> u8
     ensures { (text : List ℕ) → Codes text (DecimalWord word) → MarksOpen tokens.now text result }
@@ -216,24 +180,16 @@ fn number_in(word: u64) -> u64
     word >> 8 & NUMBER
 }
 
-/// The marks at a place of the table.
+/// The same by what is told of its digits read as one number, where that tells enough.
 #[inline]
-fn small_at(small: &[u8], place: usize) -> Option<u8>
-    ensures { result ≡ slice_get small.now place }
-{
-    small.get(place).copied()
-}
-
-/// The same by the table of small numbers, where its digits are one of these and that tells enough.
-#[inline]
-fn open_decimal(tokens: &[Token], small: &[u8], word: u64) -> u8
-    ensures { AreSmall tokens.now small.now → (text : List ℕ) → Codes text (DecimalWord word)
+fn open_decimal(tokens: &[Token], small: &SmallNumbers, word: u64) -> u8
+    ensures { TellsSmall tokens.now small.now → (text : List ℕ) → Codes text (DecimalWord word)
         → MarksOpen tokens.now text result }
 {
     if !are_plain(tokens) {
         return printed_decimal(tokens, word);
     }
-    match small_at(small, number_in(word) as usize) {
+    match small.bits_of(number_in(word)) {
         Some(bits) => bits,
         None => printed_decimal(tokens, word),
     }
@@ -241,8 +197,8 @@ fn open_decimal(tokens: &[Token], small: &[u8], word: u64) -> u8
 
 /// The bits of the tokens that are in a decimal.
 #[inline]
-pub(crate) fn decimal_bits(tokens: &[Token], small: &[u8], word: u64) -> u8
-    ensures { AreSmall tokens.now small.now → AreCoded tokens.now → (variable : List ℕ)
+pub(crate) fn decimal_bits(tokens: &[Token], small: &SmallNumbers, word: u64) -> u8
+    ensures { TellsSmall tokens.now small.now → AreCoded tokens.now → (variable : List ℕ)
         → Codes variable (DecimalWord word) → MarksVariable tokens.now variable result }
 {
     one_word();

@@ -10,5 +10,7 @@ pub(crate) struct Run {
     pub(crate) text: Text,
     /// One of eight bits.
     pub(crate) bit: u8,
+    /// Whether it has no delimiter, so that a variable may have all of it.
+    pub(crate) within_token: bool,
     pub(crate) ghost some: { 0 < length text },
 }

@@ -13,8 +13,8 @@ use wild_match::{Matcher, Pattern};
 pub(crate) struct Token {
     /// Its bytes.
     pub(crate) text: Text,
-    /// Its bytes with what stands around it in the pattern, without a gap between: of a closed number its
-    /// delimiters, of another token all up to the gaps on both sides. So it stands in a stamp.
+    /// Its bytes with what stands around it in the pattern, without a gap between: of a closed variable
+    /// its delimiters, of another token all up to the gaps on both sides. So it stands in a stamp.
     pub(crate) chunk: Text,
     /// Matches the texts that the token stands in.
     pub(crate) matcher: Matcher,
@@ -25,10 +25,10 @@ pub(crate) struct Token {
     pub(crate) storing: Matcher,
     /// One of eight bits.
     pub(crate) bit: u8,
-    /// What it is stored as, where it is a number between delimiters of the pattern: then it is all of a
-    /// variable or none of it.
+    /// What it is stored as, where it has a digit and stands between delimiters of the pattern: then it
+    /// is all of a variable or none of it.
     pub(crate) closed: Option<Coded>,
-    /// Whether it is no closed number, and may stand in the text of a number.
+    /// Whether it is no closed variable, and may stand in the text of a number.
     pub(crate) numeric: bool,
     /// Whether it is digits alone, the first of which is no zero.
     pub(crate) plain: bool,

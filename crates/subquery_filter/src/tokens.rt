@@ -6,7 +6,7 @@ ghost use Rattle.var_codec.specs.declared.Coded.{Coded};
 ghost use Rattle.wild_match.specs.Matches.{Match};
 ghost use Rattle.query_plan.specs.declared.pieces.Piece.TheVariants.{Mark, Word};
 ghost use Rattle.subquery_filter.specs.Filter.{Gives, Has, IsWanted, MarksOpen};
-ghost use Rattle.subquery_filter.specs.declared.tokens.ClosedNumber.{ClosedNumber};
+ghost use Rattle.subquery_filter.specs.declared.tokens.ClosedVariable.{ClosedVariable};
 ghost use Rattle.subquery_filter.specs.StepsFilter.{AreTokens, EndsRun, HasAll, IsClosedBy};
 ghost use Rattle.query_plan.specs.Needs.{around};
 ghost use Rattle.query_plan.specs.Pieces.{IsCut};
@@ -105,8 +105,8 @@ fn has_digit(text: &[u8]) -> bool
     false
 }
 
-/// What a text is stored as, where it is a number.
-fn number_code(text: &[u8]) -> Option<Coded>
+/// What a text is stored as, where it has a digit.
+fn variable_code(text: &[u8]) -> Option<Coded>
     ensures coded { (code : Coded) → result ≡ Some code → Codes text.now code }
     ensures variable { (code : Coded) → result ≡ Some code → (before : Option ℕ)
         → is_variable before text.now ≡ true }
@@ -114,24 +114,22 @@ fn number_code(text: &[u8]) -> Option<Coded>
     if !has_digit(text) {
         return None;
     }
-    match encode(text) {
-        Coded::Word => None,
-        code => Some(code),
-    }
+    Some(encode(text))
 }
 
-/// A number between two delimiters of the pattern, and what it is stored as.
+/// A token with a digit between two delimiters of the pattern, and what it is stored as: a number, or a
+/// word as `04`. It is all of a variable or none of it.
 #[derive(Clone, Copy)]
-pub(crate) struct ClosedNumber {
+pub(crate) struct ClosedVariable {
     pub(crate) code: Coded,
     pub(crate) before: u8,
     pub(crate) behind: u8,
 }
 
-/// The token at a place, where it is a number between two delimiters.
-fn closed_number(pieces: &[Piece], place: usize, text: &[u8]) -> Option<ClosedNumber>
+/// The token at a place, where it has a digit and stands between two delimiters.
+fn closed_variable(pieces: &[Piece], place: usize, text: &[u8]) -> Option<ClosedVariable>
     requires { slice_get pieces.now place ≡ Some (Word text.now) }
-    ensures { (n : ClosedNumber) → result ≡ Some n
+    ensures { (n : ClosedVariable) → result ≡ Some n
         → IsClosedBy pieces.now text.now n.code n.before n.behind }
 {
     if place == 0 {
@@ -139,22 +137,22 @@ fn closed_number(pieces: &[Piece], place: usize, text: &[u8]) -> Option<ClosedNu
     }
     let before = mark_at(pieces, place - 1)?;
     let behind = mark_at(pieces, place + 1)?;
-    let code = number_code(text)?;
-    Some(ClosedNumber {
+    let code = variable_code(text)?;
+    Some(ClosedVariable {
         code,
         before,
         behind,
     })
 }
 
-/// What a closed number is stored as.
-fn code_of(number: Option<ClosedNumber>) -> Option<Coded>
-    ensures none { result ≡ None → number ≡ None }
-    ensures some { (code : Coded) → result ≡ Some code → (n : ClosedNumber)
-        × (number ≡ Some n) × (n.code ≡ code) }
+/// What a closed variable is stored as.
+fn code_of(variable: Option<ClosedVariable>) -> Option<Coded>
+    ensures none { result ≡ None → variable ≡ None }
+    ensures some { (code : Coded) → result ≡ Some code → (n : ClosedVariable)
+        × (variable ≡ Some n) × (n.code ≡ code) }
 {
-    match number {
-        Some(number) => Some(number.code),
+    match variable {
+        Some(variable) => Some(variable.code),
         None => None,
     }
 }
@@ -181,9 +179,9 @@ fn push_token(
     let matcher = Matcher::new(alloc, &pattern)?;
     let storing = stored_matcher(alloc, bytes)?;
     let bit = bit_behind(tokens.len());
-    let number = closed_number(pieces, place, bytes);
-    let chunk = text_around(alloc, pieces, place, bytes, front, number)?;
-    let closed = code_of(number);
+    let variable = closed_variable(pieces, place, bytes);
+    let chunk = text_around(alloc, pieces, place, bytes, front, variable)?;
+    let closed = code_of(variable);
     let numeric = is_open(closed, bytes);
     let plain = is_plain(bytes);
     let text = Text::new(Vec::from_slice(alloc, bytes)?);
@@ -261,7 +259,7 @@ pub(crate) fn gifts_of(tokens: &[Token], text: &[u8]) -> u8
     bits
 }
 
-/// The bit of a token that is no closed number where it stands in a text.
+/// The bit of a token that is no closed variable where it stands in a text.
 fn open_mark(token: &Token, text: &[u8]) -> u8
     ensures { token.now.closed ≡ None → Match token.now.matcher.items text.now
         → result ≡ token.now.bit }
@@ -273,7 +271,7 @@ fn open_mark(token: &Token, text: &[u8]) -> u8
     }
 }
 
-/// The bits of the tokens that are no closed numbers, and stand in a text.
+/// The bits of the tokens that are no closed variables, and stand in a text.
 pub(crate) fn open_marks(tokens: &[Token], text: &[u8]) -> u8
     ensures { MarksOpen tokens.now text.now result }
 {
@@ -284,7 +282,7 @@ pub(crate) fn open_marks(tokens: &[Token], text: &[u8]) -> u8
     bits
 }
 
-/// The bit of a token that is a closed number, and is stored so.
+/// The bit of a token that is a closed variable, and is stored so.
 #[inline]
 fn coded_bit(token: &Token, code: Coded) -> u8
     ensures { token.now.closed ≡ Some code → result ≡ token.now.bit }
@@ -296,7 +294,7 @@ fn coded_bit(token: &Token, code: Coded) -> u8
     }
 }
 
-/// The bits of the closed numbers that are stored so.
+/// The bits of the closed variables that are stored so.
 #[inline]
 pub(crate) fn coded_bits(tokens: &[Token], code: Coded) -> u8
     ensures { All (λ k. k.closed ≡ Some code → Has result k.bit) tokens.now }

@@ -8,7 +8,6 @@ ghost use Rattle.subquery_filter.specs.StepsLetters.{mark_of, marked_from};
 ghost use Rattle.subquery_filter.specs.Verdicts.{BeginsMany, IsCertain, IsRejected};
 
 use logtype_text::{Symbol, first_symbol};
-use memchr::memmem::Finder;
 use query_plan::{Letters, Plan, matches_letters};
 use wild_match::Item;
 
@@ -116,9 +115,8 @@ pub fn verdict_of(plan: &Plan, text: &[u8]) -> Verdict
     }
 }
 
-/// The same, where the search's longest run of bytes as log types store them is given: only a text that has
-/// it is read for `Certain`.
-pub(crate) fn verdict_behind(plan: &Plan, run: &Finder<'_>, text: &[u8]) -> Verdict
+/// The same, where it is told whether the log type may be certain. That is a hint: each one may be tried.
+pub(crate) fn verdict_behind(plan: &Plan, text: &[u8], may_be_certain: bool) -> Verdict
     ensures rejected { (parts : List Part) → text.now ≡ type_text (map symbol_of parts)
         → result ≡ Verdict.Rejected → IsRejected plan.now parts }
     ensures certain { (parts : List Part) → text.now ≡ type_text (map symbol_of parts)
@@ -128,8 +126,7 @@ pub(crate) fn verdict_behind(plan: &Plan, run: &Finder<'_>, text: &[u8]) -> Verd
     if !matches_letters(plan.skeleton().as_slice(), constants) {
         return Verdict::Rejected;
     }
-    // That the run stands there is a hint: each log type may be tried.
-    if run.find(text).is_some() && is_certain(plan.wide().as_slice(), text) {
+    if may_be_certain && is_certain(plan.wide().as_slice(), text) {
         return Verdict::Certain;
     }
     Verdict::Tried

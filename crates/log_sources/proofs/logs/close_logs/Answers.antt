@@ -1,4 +1,4 @@
-use Rattle.std.proofs.Common.{◌≡◌, [], ap, rules, subst, sym, List, ◌∙◌}
+use Rattle.std.proofs.Common.{◌≡◌, [], rules, subst, List, ◌∙◌}
 use Rattle.log_sources.specs.declared.source.LogSource.{LogSource}
 use Rattle.log_sources.proofs.CloseLemmas.{Closed, Told, all_unread, one_closed}
 use Rattle.log_sources.proofs.logs.close_logs.Goals as goal

@@ -1,19 +1,15 @@
-use Rattle.std.proofs.Common.{◌≡◌, [], refl, subst}
-use Rattle.std.specs.Prelude.{◌↔◌, IsTrue}
-use Rattle.query_plan.specs.Slots.{MayBegin, MayStand}
-use Rattle.query_plan.proofs.SlotLemmas.{none_left, stands_here}
+use Rattle.std.proofs.Common.{◌≡◌, true, false}
+use Rattle.std.proofs.lemmas.Bool.{eq-eqb}
+use Rattle.query_plan.proofs.StandingLemmas.{nowhere, stands_there}
 use Rattle.query_plan.proofs.slots.may_stand.Goals as goal
 
-pub returns-then-may_begin : goal.returns-then-may_begin
-returns-then-may_begin c = λ symbols typed.
-    let left = c.loop-symbol.invariant symbols typed in
-    (λ yes. left.2.1 (stands_here c.args.text.now left.0 ((c.may_begin.ensures left.0 left.1).0 c.if-may_begin.true)), λ m. refl)
+pub returns-then-not-begins_at : goal.returns-then-not-begins_at
+returns-then-not-begins_at c = λ symbols typed.
+    let place = c.in-Some.ensures in
+    let none = nowhere c.args.text.now c.args.log_type.now c.in-Some.at place.0 place.1 (c.begins_at.ensures.missed c.if-not-begins_at.true) symbols typed in
+    (λ (yes : false ≡ true). cc, λ m. absurd (none m))
 
-pub returns : goal.returns
-returns c = λ symbols typed.
-    let text = c.args.text.now in
-    let left = c.loop-symbol.invariant symbols typed in
-    let end : left.0 ≡ [] = none_left c.loop-symbol.rest.now c.in_default.ensures.none left.0 left.1 in
-    let begins = subst (λ x. IsTrue c.may_begin-2.result ↔ MayBegin text x) end (c.may_begin-2.ensures left.0 left.1) in
-    let stands = subst (λ x. MayStand text symbols ↔ MayStand text x) end left.2 in
-    (λ yes. stands.1 (begins.0 yes), λ m. begins.1 (stands.0 m))
+pub returns-then-at-eq0 : goal.returns-then-at-eq0
+returns-then-at-eq0 c = λ symbols typed.
+    let place = c.in-Some.ensures in
+    (λ yes. stands_there c.args.text.now c.args.log_type.now c.in-Some.at c.if-at-eq0.true place.1 (c.begins_at.ensures.found c.if-not-begins_at.false) symbols typed, λ m. eq-eqb c.in-Some.at 0 c.if-at-eq0.true)

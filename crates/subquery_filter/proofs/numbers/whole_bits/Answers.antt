@@ -6,6 +6,11 @@ use Rattle.subquery_filter.proofs.ClosedLemmas.{both_marks, exact_marks}
 use Rattle.subquery_filter.proofs.NumberLemmas.{any_part, open_none, whole_coded, whole_is, whole_part}
 use Rattle.subquery_filter.proofs.numbers.whole_bits.Goals as goal
 
+pub returns-in-Some : goal.returns-in-Some
+returns-in-Some c = λ small coded words variable (n, is, packs).
+    both_marks c.one_word.ensures c.args.tokens.now variable (WholeWord (cast_signed w64 c.args.word)) c.coded_bits-exact.result c.in-Some.bits (whole_coded variable n c.args.word is packs) coded (search rules)
+    (subst (λ (t : List ℕ). MarksOpen c.args.tokens.now t c.in-Some.bits) (sym (whole_is variable n c.args.word is packs)) (c.bits_of.ensures c.args.tokens.now c.in-Some.bits small (search rules)))
+
 pub returns-then-not-has_open : goal.returns-then-not-has_open
 returns-then-not-has_open c = λ small coded words variable (n, is, packs).
     exact_marks c.one_word.ensures c.args.tokens.now variable (WholeWord (cast_signed w64 c.args.word)) c.coded_bits-exact.result (whole_coded variable n c.args.word is packs) coded (search rules)
@@ -13,5 +18,5 @@ returns-then-not-has_open c = λ small coded words variable (n, is, packs).
 
 pub returns : goal.returns
 returns c = λ small coded words variable (n, is, packs).
-    both_marks c.one_word.ensures c.args.tokens.now variable (WholeWord (cast_signed w64 c.args.word)) c.coded_bits-exact.result c.open_whole.result (whole_coded variable n c.args.word is packs) coded (search rules)
-    (subst (λ (t : List ℕ). MarksOpen c.args.tokens.now t c.open_whole.result) (sym (whole_is variable n c.args.word is packs)) (c.open_whole.ensures small))
+    both_marks c.one_word.ensures c.args.tokens.now variable (WholeWord (cast_signed w64 c.args.word)) c.coded_bits-exact.result c.whole_marks.result (whole_coded variable n c.args.word is packs) coded (search rules)
+    (subst (λ (t : List ℕ). MarksOpen c.args.tokens.now t c.whole_marks.result) (sym (whole_is variable n c.args.word is packs)) c.whole_marks.ensures)

@@ -1,10 +1,9 @@
 use Rattle.std.proofs.Common.{inr}
-use Rattle.subquery_filter.proofs.BitLemmas.{has_through}
 use Rattle.subquery_filter.proofs.slots.passed_test.Goals as goal
 
 pub returns : goal.returns
-returns c = λ plan tokens beside slots text gives kinds. record {
+returns c = λ plan tokens beside slots text all. record {
   right = tt;
-  gives = λ tried typed j d lt m. has_through c.all_with.result c.args.known _ c.all_with.ensures.more (gives typed j d lt m);
-  slots_are = λ tried place kind at. inr (c.all_with.ensures.all tokens kinds kind);
+  gives = λ tried typed j d lt m. all j d lt;
+  slots_are = λ tried place kind at. inr (λ words variable word is j d lt m. all j d lt);
 }

@@ -2,7 +2,7 @@ use Rattle.std.proofs.Common.{List, rules, subst, sym}
 use Rattle.subquery_filter.specs.declared.run.Run.{Run}
 use Rattle.subquery_filter.specs.declared.slots.Beside.{Beside}
 use Rattle.subquery_filter.specs.declared.token.Token.{Token}
-use Rattle.subquery_filter.specs.Filter.{AreAlone, AreCoded, AreSmall, AreTests}
+use Rattle.subquery_filter.specs.Filter.{AreAlone, AreCoded, AreTests, TellsSmall}
 use Rattle.subquery_filter.proofs.ClosedLemmas.{are_coded}
 use Rattle.subquery_filter.proofs.MarkLemmas.{asks_ok, filters_ok, told_none}
 use Rattle.subquery_filter.proofs.filter.Filter.ask.Goals as goal
@@ -20,12 +20,12 @@ returns-clause-asks g c = asks_ok c.args.plan.now (g.N.Names.types c.args.names.
       wanted = a.wanted;
       tests =
           subst (λ (x : Beside). AreTests c.args.plan.now c.args.self.tokens.items x types slots tests) c.beside.ensures
-          (subst (λ (l : List Token). AreTests c.args.plan.now l c.beside.result types slots tests) looked (c.in_ok-test_types.ensures.tests (c.kind_bits.ensures coded)));
+          (subst (λ (l : List Token). AreTests c.args.plan.now l c.beside.result types slots tests) looked (c.in_ok-test_types.ensures.tests c.all_bits.ensures.each (c.kind_bits.ensures coded)));
       needles = a.needles;
       told = told_none _ _ (search rules);
       brought = a.brought;
       numbers = a.numbers;
-      small = subst (λ (l : List Token). AreSmall l c.in_ok-small.small.items) looked c.in_ok-small.ensures;
+      small = subst (λ (l : List Token). TellsSmall l c.in_ok-small.small) looked c.in_ok-small.ensures;
       stamps = a.stamps;
       stamped = a.stamped;
       runs = a.runs;
@@ -49,12 +49,12 @@ returns-clause-filter g c = filters_ok c.args.plan.now (g.N.Names.types c.args.n
         wanted = a.wanted;
         tests =
             subst (λ (x : Beside). AreTests c.args.plan.now c.args.self.tokens.items x types slots tests) c.beside.ensures
-            (subst (λ (l : List Token). AreTests c.args.plan.now l c.beside.result types slots tests) looked (c.in_ok-test_types.ensures.tests (c.kind_bits.ensures coded)));
+            (subst (λ (l : List Token). AreTests c.args.plan.now l c.beside.result types slots tests) looked (c.in_ok-test_types.ensures.tests c.all_bits.ensures.each (c.kind_bits.ensures coded)));
         needles = a.needles;
         told = told_none _ _ (search rules);
         brought = a.brought;
         numbers = a.numbers;
-        small = subst (λ (l : List Token). AreSmall l c.in_ok-small.small.items) looked c.in_ok-small.ensures;
+        small = subst (λ (l : List Token). TellsSmall l c.in_ok-small.small) looked c.in_ok-small.ensures;
         stamps = a.stamps;
         stamped = a.stamped;
         runs = a.runs;

@@ -7,7 +7,7 @@ use Rattle.subquery_filter.specs.Filter.{AreCoded, AreNumberBits, AreRunStamps, 
 use Rattle.subquery_filter.specs.StepsFilter.{AreTokens}
 use Rattle.subquery_filter.proofs.AloneLemmas.{alone_none}
 use Rattle.subquery_filter.proofs.ClosedLemmas.{are_coded}
-use Rattle.subquery_filter.proofs.FilterLemmas.{small_none, tests_none}
+use Rattle.subquery_filter.proofs.FilterLemmas.{tests_none}
 use Rattle.subquery_filter.proofs.SlotLemmas.{number_bits}
 use Rattle.subquery_filter.proofs.MarkLemmas.{none_brought, told_none}
 use Rattle.subquery_filter.proofs.filter.Filter.begin.Goals as goal
@@ -28,7 +28,7 @@ returns c = λ types.
       told = told_none _ _ (search rules);
       brought = λ n. none_brought c.all_bits-wanted.result (marks_at c.none.result n) (c.none.ensures n);
       numbers = subst (λ (l : List Token). AreNumberBits l (bit_or kinds.whole kinds.decimal)) looked (number_bits c.as_slice-looked.result.now kinds (c.kind_bits-kinds.ensures coded));
-      small = small_none tokens _ (search rules);
+      small = c.none-small.ensures tokens;
       stamps = subst (λ (l : List Token). AreStamps l c.in_ok-stamps.stamps.items) looked c.in_ok-stamps.ensures;
       stamped = subst (λ (l : List ℕ). (pattern : ℕ) → Has c.any_of-stamped.result (slice_index_or l pattern 0)) c.as_slice.ensures.value c.any_of-stamped.ensures;
       runs = subst (λ ps. AreRuns ps c.in_ok-runs.runs.items) c.pieces-pieces.ensures.pieces c.in_ok-runs.ensures;

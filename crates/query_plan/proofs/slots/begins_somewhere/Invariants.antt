@@ -3,7 +3,7 @@ use Rattle.logtype_text.specs.declared.symbols.Symbol.{Symbol}
 use Rattle.logtype_text.specs.TypeText.{type_text}
 use Rattle.query_plan.specs.Slots.{MayStand}
 use Rattle.query_plan.proofs.SlotLemmas.{AreLeft}
-use Rattle.query_plan.proofs.slots.may_stand.Given as goal
+use Rattle.query_plan.proofs.slots.begins_somewhere.Given as goal
 
 abbrev pub decreases-loop-symbol : goal.decreases-loop-symbol
 decreases-loop-symbol l = length l.rest

@@ -1,6 +1,0 @@
-use Rattle.std.proofs.Common.{◌≡◌, length}
-use Rattle.subquery_filter.specs.Filter.{AreSmall}
-use Rattle.subquery_filter.proofs.numbers.mark_small.Given as goal
-
-abbrev pub invariant-loop-word : goal.invariant-loop-word
-invariant-loop-word l = (length l.small.items ≡ l.word) × AreSmall l.tokens l.small.items
