@@ -74,6 +74,7 @@ where
         (around H.content H.unread H.open_faults H.read_faults K.written K.faults
         shelf.old shelf.new out.old out.new err.old err.new) }
     ensures goes_on { DiskGoesOn (D.state disk.old) (D.state disk.new) }
+    ensures second_goes_on { DiskGoesOn (D.state second.old) (D.state second.new) }
 
     // what stays
     ensures logs { (name : List ℕ) → H.content shelf.new name ≡ H.content shelf.old name }
@@ -115,6 +116,7 @@ where
         (around H.content H.unread H.open_faults H.read_faults K.written K.faults
         shelf.old shelf.new out.old out.new err.old err.new) }
     ensures goes_on { DiskGoesOn (D.state disk.old) (D.state disk.new) }
+    ensures second_goes_on { DiskGoesOn (D.state second.old) (D.state second.new) }
 
     // what stays
     ensures logs { (name : List ℕ) → H.content shelf.new name ≡ H.content shelf.old name }

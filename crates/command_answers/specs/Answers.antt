@@ -22,7 +22,7 @@ use Rattle.command_answers.specs.Names.{RefusesNames}
 use Rattle.command_refusals.specs.declared.outcome.AddRefusal.{AddRefusal}
 use Rattle.command_answers.specs.Ingested.{EndsIngest, FromArchive, IfRefused, TellsDamage}
 use Rattle.command_answers.specs.Watching.{EndsWatch}
-use Rattle.command_answers.specs.Merging.{MayCome, MeetsNoLimit, Merge, Merges, PrintsMerge}
+use Rattle.command_answers.specs.Merging.{MayCome, MeetsNoLimit, Merge, Merges, PrintsMerge, TellsInOrder}
 use Rattle.command_answers.specs.Upgrading.{EndsUpgrade, MetNone}
 use Rattle.archive_meaning.specs.declared.TheConstants.{MAX_ROWS}
 use Rattle.archive_open.specs.Shown.{RefusedAt}
@@ -163,13 +163,15 @@ pub record AnswersCount (by : CountKey) (from to : Option ℤ) (stats : Bool) (p
       → AnswersGroups by (asked items (record { from = from; to = to })) stats seen old new status
 
 -- What `merge` answers, whatever archive is known. What is said of the disk's bytes, and of the journal that they stand for, holds
--- where they were those of the known archive at the start. A second archive that may come behind is merged, or memory ended, where
--- no call of the disks and no write to the output failed, and no limit was met.
+-- where they were those of the known archive at the start; where damage is, and which archive comes first, is told of any bytes. A
+-- second archive that may come behind is merged, or memory ended, where no call of the disks and no write to the output failed, and
+-- no limit was met.
 pub record AnswersMerge (known : Option KnownArchive) (seen : Outside) (old new second second_new : DiskState) (status : ℕ)
     : Type 0 where
   pub merge : Merge
   pub first : ℕ
   pub merges : Merges merge first (over known old old) (over known old new) second second_new
+  pub in_order : TellsInOrder merge old new
   pub printed : PrintsMerge merge first seen status
   pub complete : FromArchive (over known old old) (λ h before bytes stood. OfJournal second.seen (λ g others other.
       MayCome h (length stood.legal.held.names) g other → ¬ Rose old.faults new.faults → ¬ Rose second.faults second_new.faults

@@ -13,7 +13,7 @@ use Rattle.archive_meaning.specs.declared.entry.JournalEntry.{JournalEntry}
 use Rattle.archive_meaning.specs.Held.{File, Held, content_of}
 use Rattle.archive_meaning.specs.Stands.{StandsFor}
 use Rattle.archive_meaning.specs.Spelled.{end_of, words_named}
-use Rattle.archive_open.specs.Shown.{RefusedAt, StandsForNone, counted}
+use Rattle.archive_open.specs.Shown.{IsLastGate, RefusedAt, StandsForNone, counted}
 use Rattle.ingest_meaning.specs.Room.{files_size, needed_behind}
 use Rattle.ingest_meaning.specs.Parts.{in_file}
 use Rattle.ingest_meaning.specs.Dictionaries.{HasTextsBehind, IsFullBy, book_texts, header_limits, limit_of}
@@ -28,6 +28,7 @@ use Rattle.command_refusals.specs.declared.outcome.AddRefusal.TheVariants.{TooMa
 use Rattle.command_refusals.specs.declared.outcome.MergeRefusal.{MergeRefusal}
 use Rattle.command_answers.specs.Ingested.{FromArchive, LeavesJournal}
 use Rattle.command_answers.specs.Names.{RefusesMore}
+use Rattle.command_answers.specs.Taken.{IsDamagedAt}
 
 -- What came of a merge: the new files as they are told, in order; why not all of the second archive was merged; and the name of
 -- the file that stopped it, where one did.
@@ -148,6 +149,34 @@ HasDiskCause old new second second_new MergeRefusal.DiskFault =
 HasDiskCause old new second second_new (MergeRefusal.Damaged at) = IfSome old.seen StandsForNone
 HasDiskCause old new second second_new (MergeRefusal.SecondDamaged at) = RefusedAt at second.seen
 HasDiskCause old new second second_new _ = Unit {0}
+
+-- ---- which archive comes first
+
+-- the refusal is of the second archive, or of how it goes with the first
+abbrev pub IsOfSecond : Option MergeRefusal → Type 0
+IsOfSecond (Some (MergeRefusal.SecondDamaged at)) = Unit {0}
+IsOfSecond (Some (MergeRefusal.VersionDiffers first second)) = Unit {0}
+IsOfSecond (Some (MergeRefusal.TooManyFiles held more)) = Unit {0}
+IsOfSecond _ = ⊥
+
+-- for this a merge may end before the archive is open
+abbrev pub MayEndOpening : Option MergeRefusal → Type 0
+MayEndOpening (Some MergeRefusal.DiskFault) = Unit {0}
+MayEndOpening (Some (MergeRefusal.Damaged at)) = Unit {0}
+MayEndOpening (Some MergeRefusal.OutOfMemory) = Unit {0}
+MayEndOpening _ = ⊥
+
+-- where the bytes are told, a walk past whole records comes to a closed gate
+abbrev pub CanBeOpened : Option (List ℕ) → Type 0
+CanBeOpened told = IfSome told (λ bytes. (at : ℕ) × IsLastGate at bytes)
+
+-- The archive comes before the second one, whatever its bytes are. Damage of it is told at its place, and no file then. But for
+-- this, for a disk that failed and for want of memory, it could be opened. Where a cause of the second one is told, and no file,
+-- nothing was written, and no call of the archive's disk failed.
+pub record TellsInOrder (m : Merge) (old new : DiskState) : Type 0 where
+  pub damaged : (at : ℕ) → m.refusal ≡ Some (MergeRefusal.Damaged at) → IsDamagedAt at old new × (m.files ≡ [])
+  pub opened : ¬ MayEndOpening m.refusal → CanBeOpened old.seen
+  pub second : IsOfSecond m.refusal → m.files ≡ [] → KeepsBytes old new × (new.faults ≡ old.faults)
 
 -- ---- the answer
 

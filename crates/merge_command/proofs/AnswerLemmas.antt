@@ -18,7 +18,7 @@ use Rattle.command_refusals.specs.declared.outcome.MergeRefusal.{MergeRefusal}
 use Rattle.command_answers.specs.Answers.{AnswersMerge}
 use Rattle.command_answers.specs.Known.{KnownArchive, over}
 use Rattle.command_answers.specs.Ingested.{FromArchive}
-use Rattle.command_answers.specs.Merging.{HasDiskCause, HasJournalCause, MayCome, MeetsNoLimit, Merge, Merges, PrintsMerge, TakesOver, merged_status}
+use Rattle.command_answers.specs.Merging.{HasDiskCause, HasJournalCause, MayCome, MeetsNoLimit, Merge, Merges, PrintsMerge, TakesOver, TellsInOrder, merged_status}
 use Rattle.merge_command.specs.Came.{refused_by}
 
 -- nothing was written
@@ -79,18 +79,19 @@ module _ (seen : Outside) (from to second second_new : DiskState) (status : ℕ)
       by_seen None is takes = tt
       by_seen (Some bytes) is takes = λ h before stood only. by_second bytes is h before stood second.seen refl (takes h before stood only)
 
-pub answers : (known : Option KnownArchive) (seen : Outside) (old new second second_new : DiskState) (status : ℕ) (m : Merge) (first : ℕ) → Merges m first (over known old old) (over known old new) second second_new → PrintsMerge m first seen status
+pub answers : (known : Option KnownArchive) (seen : Outside) (old new second second_new : DiskState) (status : ℕ) (m : Merge) (first : ℕ) → Merges m first (over known old old) (over known old new) second second_new → TellsInOrder m old new → PrintsMerge m first seen status
     → AnswersMerge known seen old new second second_new status
-answers known seen old new second second_new status m first merges printed = record {
+answers known seen old new second second_new status m first merges in_order printed = record {
   merge = m;
   first = first;
   merges = merges;
+  in_order = in_order;
   printed = printed;
   complete = completes seen (over known old old) (over known old new) second second_new status m first merges printed;
 }
 
 pub refused_all : (known : Option KnownArchive) (seen : Outside) (old new second second_new : DiskState) (status : ℕ) (refusal : MergeRefusal)
     → status ≡ merge_status refusal → SaysIn seen (merge_line [] refusal) → seen.out.1 ≡ seen.out.0 → Stayed seen.out_faults
-    → Merges (refused_by refusal) 0 (over known old old) (over known old new) second second_new → AnswersMerge known seen old new second second_new status
-refused_all known seen old new second second_new status refusal is said nothing stayed merges =
-    answers known seen old new second second_new status (refused_by refusal) 0 merges (inl (is, subst (λ o. Grew seen.out.0 o []) (sym nothing) (grew_none seen.out.0), said, stayed))
+    → Merges (refused_by refusal) 0 (over known old old) (over known old new) second second_new → TellsInOrder (refused_by refusal) old new → AnswersMerge known seen old new second second_new status
+refused_all known seen old new second second_new status refusal is said nothing stayed merges in_order =
+    answers known seen old new second second_new status (refused_by refusal) 0 merges in_order (inl (is, subst (λ o. Grew seen.out.0 o []) (sym nothing) (grew_none seen.out.0), said, stayed))

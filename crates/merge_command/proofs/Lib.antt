@@ -3,6 +3,7 @@ mod CauseLemmas
 mod ContentLemmas
 mod LineLemmas
 mod MergedLemmas
+mod OpeningLemmas
 mod OverLemmas
 mod RefusedLemmas
 mod SegmentLemmas

@@ -103,7 +103,7 @@ pub over_stood : (told : Option (List ℕ)) (b : Shown) (P : Header → List Jou
 over_stood None b P opens each = tt
 over_stood (Some bytes) b P opens each = λ g es stood. each bytes g es stood refl (opens g es stood)
 
-length-lines : (files : List FileEntry) (ms : List Merged) → length ms ≤ length files → length (lines_by files ms) ≡ length ms
+pub length-lines : (files : List FileEntry) (ms : List Merged) → length ms ≤ length files → length (lines_by files ms) ≡ length ms
 length-lines files [] few = refl
 length-lines [] (m ∷ ms) few = absurd (omega (arith, few))
 length-lines (f ∷ files) (m ∷ ms) few = omega (arith, length-lines files ms (omega (arith, few)))

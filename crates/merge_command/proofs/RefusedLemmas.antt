@@ -24,6 +24,18 @@ pub of_all : (seen : Option (List ℕ)) (P : Header → List JournalEntry → He
 of_all None P all = tt
 of_all (Some bytes) P all = λ h es stood. all h es stood.legal.held
 
+-- nothing is asked of the journals
+pub on_all : (old : DiskState) (second : Option (List ℕ)) (refusal : MergeRefusal)
+    → ((h : Header) (before : List JournalEntry) (held : ℕ) (g : Header) (es : List JournalEntry) (other : Held) → HasJournalCause h before (before ++ []) held g es other (refused_by refusal) 0 refusal)
+    → FromArchive old (λ h before bytes stood. OfJournal second (λ g es other. HasJournalCause h before (before ++ []) (length stood.legal.held.names) g es other (refused_by refusal) 0 refusal))
+on_all old second refusal all = go old.seen second
+  where
+    go : (told other : Option (List ℕ)) → IfSome told (λ bytes. (h : Header) (before : List JournalEntry) (stood : StandsFor bytes h before) → ((c : List ℕ) → old.images c → StandsFor c h before)
+        → OfJournal other (λ g es held. HasJournalCause h before (before ++ []) (length stood.legal.held.names) g es held (refused_by refusal) 0 refusal))
+    go None other = tt
+    go (Some bytes) None = λ h before stood only. tt
+    go (Some bytes) (Some more) = λ h before stood only. λ g es held. all h before (length stood.legal.held.names) g es held.legal.held
+
 -- the journal is as it was
 took_nothing : (refusal : MergeRefusal) (old new : DiskState) (second : Option (List ℕ)) (h : Header) (before : List JournalEntry) {bytes : List ℕ} (stood : StandsFor bytes h before) → TakesNothing h before old new
     → OfJournal second (λ g es other. HasJournalCause h before (before ++ []) (length stood.legal.held.names) g es other (refused_by refusal) 0 refusal) → TakesOver second h before stood (refused_by refusal) old new

@@ -1,11 +1,9 @@
 -- What an archive holds with the files of a second one.
-use Rattle.std.proofs.Common.{◌≡◌, ◌+◌, ◌≤◌, refl, sym, ap, subst, ◌∙◌, ℕ, List, ◌++◌, length, map, Option, Some, None, arith, true}
+use Rattle.std.proofs.Common.{◌≡◌, ◌+◌, ◌≤◌, sym, ap, subst, ◌∙◌, ℕ, List, ◌++◌, length, Option, Some, None, arith, true}
 use Rattle.std.specs.Prelude.{All, IfSome, is_some, slice_get}
 use Rattle.std.specs.List.{Contains}
 use Rattle.std.proofs.lemmas.List.{length-map}
-use Rattle.log_seams.specs.Disk.{IsLawful, LeavesOnly}
 use Rattle.log_seams.specs.declared.disk.Disk.{Ghosts as DiskGhosts}
-use Rattle.log_seams.proofs.MomentLemmas.{rests_leave, weaker}
 use Rattle.record_format.specs.declared.header.Header.{Header}
 use Rattle.disk_journal.specs.Journal.{state_of}
 use Rattle.disk_journal.specs.State.{JournalState}
@@ -21,6 +19,7 @@ use Rattle.archive_open.specs.declared.files.FileEntry.{FileEntry}
 use Rattle.ingest_meaning.specs.Dictionaries.{book_texts}
 use Rattle.ingest_meaning.specs.WordsIn.{words_of}
 use Rattle.disk_seal.specs.Opening.{MayOpen}
+use Rattle.disk_seal.specs.Registered.{HoldsNames}
 use Rattle.ingest_workers.specs.Ingested.{told_entries}
 use Rattle.search_walk.specs.Journal.{OfJournal}
 use Rattle.archive_merge.specs.Behind.{SecondView}
@@ -33,9 +32,7 @@ use Rattle.archive_merge.specs.declared.refusal.MergeRefusal.{MergeRefusal as Wh
 use Rattle.command_answers.specs.Ingested.{LeavesJournal}
 use Rattle.command_answers.specs.Merging.{HasJournalCause, MayCome, Merge, TakesOver, texts_held}
 use Rattle.merge_command.specs.Came.{lines_by}
-use Rattle.write_commands.specs.JournalLeft.{StandsBetween}
-use Rattle.write_commands.proofs.AppendLemmas.{OpensFrom, files_counted, may_append}
-use Rattle.write_commands.proofs.LeavesLemmas.{begun_sooner, of_told, opened_as, prefix_same, still_between}
+use Rattle.write_commands.proofs.LeavesLemmas.{of_told, opened_as}
 use Rattle.write_commands.proofs.PieceLemmas.{IsNewFrom}
 use Rattle.merge_command.proofs.CauseLemmas.{texts_same}
 use Rattle.merge_command.proofs.ContentLemmas.{types_behind, words_behind}
@@ -47,24 +44,26 @@ both_of : (seen : Option (List ℕ)) (P Q R : Header → List JournalEntry → H
 both_of None P Q R join p q = tt
 both_of (Some bytes) P Q R join p q = λ h es stood. join h es stood.legal.held (p h es stood) (q h es stood)
 
-module _ (runs : FilesAreRuns) (theirs : SegmentsAreTheirs) {D : Type 0} {d : DiskGhosts D} (old : JournalState) (j after : Journal D d) (a : Shown) (from : OpensFrom old (state_of j) a)
-    (law_old : IsLawful old.disk) (law_now : IsLawful (state_of j).disk) (law_new : IsLawful (state_of after).disk) (risen : old.disk.faults ≤ (state_of j).disk.faults)
+-- a journal that is told has as many files as the archive that was opened
+pub number_held : (j : JournalState) (first : ℕ) → HoldsNames first j → is_some j.disk.seen ≡ true → (h : Header) (before : List JournalEntry) → j.header ≡ h → told_entries j ≡ before → (legal : IsLegal h before) → first ≡ length legal.held.names
+number_held j first holds told h before header entries =
+    subst (λ es. (legal : IsLegal h es) → first ≡ length legal.held.names) entries
+    (subst (λ x. (legal : IsLegal x (told_entries j)) → first ≡ length legal.held.names) header (of_told (is_some j.disk.seen) told holds))
+
+module _ (runs : FilesAreRuns) (theirs : SegmentsAreTheirs) {D : Type 0} {d : DiskGhosts D} (j after : Journal D d) (may : MayOpen (state_of j))
     (s : SecondView) (b : Shown) (opens : Opens s.told b) (view : (bytes : List ℕ) → s.told ≡ Some bytes → s ≡ view_in bytes b)
-    (first : ℕ) (counted : first ≡ length a.files) (ms : List Merged) (why : Option Why) (merged : HasMergedAll s first (names_of b.files) ms why j after)
+    (first : ℕ) (holds : HoldsNames first (state_of j)) (ms : List Merged) (why : Option Why) (merged : HasMergedAll s first (names_of b.files) ms why j after)
     (m : Merge) (lines_are : m.files ≡ lines_by b.files ms) (none : m.refusal ≡ None → why ≡ None)
     (comes : (h : Header) (held : ℕ) → j.header ≡ h → first ≡ held → OfJournal s.told (λ g es other. MayCome h held g other)) where
   few : length ms ≤ length b.files
   few = omega (arith, merged.within, length-map b.files (λ (f : FileEntry). f.name))
 
-  module _ (h : Header) (before : List JournalEntry) (bytes : List ℕ) (told : old.disk.seen ≡ Some bytes) (stood : StandsFor bytes h before) (only : (c : List ℕ) → old.disk.images c → StandsFor c h before) where
-    may : MayOpen (state_of j)
-    may = may_append old (state_of j) a from
-
+  module _ (h : Header) (before : List JournalEntry) (bytes : List ℕ) (told : (state_of j).disk.seen ≡ Some bytes) (stood : StandsFor bytes h before) where
     some : is_some (state_of j).disk.seen ≡ true
-    some = ap is_some (from.looks.rests.seen ∙ told)
+    some = ap is_some told
 
     opened : (j.header ≡ h) × (told_entries (state_of j) ≡ before)
-    opened = opened_as (state_of j) h before bytes may.header may.spelled may.legal may.ends.ends (from.looks.rests.seen ∙ told) stood
+    opened = opened_as (state_of j) h before bytes may.header may.spelled may.legal may.ends.ends told stood
 
     abbrev added : List JournalEntry
     added = merged.naming ++ merged.fresh
@@ -75,24 +74,15 @@ module _ (runs : FilesAreRuns) (theirs : SegmentsAreTheirs) {D : Type 0} {d : Di
         (subst (λ x. LeavesEntries x (told_entries (state_of j)) (told_entries (state_of j) ++ added) (state_of j).disk (state_of after).disk) opened.0
         (of_told (is_some (state_of j).disk.seen) some merged.left))
 
-    read_past : LeavesOnly old.disk (state_of j).disk (StandsBetween h before before)
-    read_past = weaker old.disk (state_of j).disk old.disk.images (StandsBetween h before before) (rests_leave old.disk (state_of j).disk law_old law_now from.looks.rests)
-        (λ c image. still_between h before before c (prefix_same before) (only c image))
-
-    leaves : LeavesJournal h before (before ++ added) old.disk (state_of after).disk
-    leaves = begun_sooner h before before (before ++ added) old.disk (state_of j).disk (state_of after).disk read_past (added, refl) risen merged.goes.moments
-        (leaves_journal h before (before ++ added) (state_of j).disk (state_of after).disk left)
+    leaves : LeavesJournal h before (before ++ added) (state_of j).disk (state_of after).disk
+    leaves = leaves_journal h before (before ++ added) (state_of j).disk (state_of after).disk left
 
     legal : IsLegal h (before ++ added)
     legal = legal_left h before (before ++ added) (state_of j).disk (state_of after).disk (merged.goes.tells ∙ some) left
 
-    -- the archive has as many files as names, and the first new file this number
+    -- the first new file has the number of the names
     number : first ≡ length stood.legal.held.names
-    number = by_told old.disk.seen told from.opened
-      where
-        by_told : (seen : Option (List ℕ)) → seen ≡ Some bytes → Opens seen a → first ≡ length stood.legal.held.names
-        by_told None is opens = absurd (cc (is))
-        by_told (Some image) is opens = files_counted h before a stood.legal.held first ((subst (λ o. Opens o a) is opens) h before stood) counted
+    number = number_held (state_of j) first holds some h before opened.0 opened.1 stood.legal
 
     numbers : (i : ℕ) (x : Merged) → slice_get ms i ≡ Some x → x.file ≡ length stood.legal.held.names + i
     numbers i x at = merged.numbers i x at ∙ ap (λ n. n + i) number
@@ -100,7 +90,7 @@ module _ (runs : FilesAreRuns) (theirs : SegmentsAreTheirs) {D : Type 0} {d : Di
     new : All (IsNewFrom (length stood.legal.held.names)) merged.fresh
     new = all_new (length stood.legal.held.names) ms merged.fresh numbers merged.others
 
-    pub takes_over : IfSome m.refusal (λ refusal. OfJournal s.told (λ g es other. HasJournalCause h before (before ++ added) (length stood.legal.held.names) g es other m (done_by first (length ms) why) refusal)) → TakesOver s.told h before stood m old.disk (state_of after).disk
+    pub takes_over : IfSome m.refusal (λ refusal. OfJournal s.told (λ g es other. HasJournalCause h before (before ++ added) (length stood.legal.held.names) g es other m (done_by first (length ms) why) refusal)) → TakesOver s.told h before stood m (state_of j).disk (state_of after).disk
     takes_over cause = record {
       added = added;
       leaves = leaves;

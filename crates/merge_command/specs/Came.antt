@@ -18,7 +18,7 @@ use Rattle.archive_merge.specs.declared.refusal.MergeRefusal.TheVariants.{LongNa
 use Rattle.file_lines.specs.Directory.{FileLine}
 use Rattle.command_refusals.specs.Outcome.{merge_from_register}
 use Rattle.command_refusals.specs.declared.outcome.MergeRefusal.{MergeRefusal}
-use Rattle.command_answers.specs.Merging.{Merge}
+use Rattle.command_answers.specs.Merging.{IsOfSecond, Merge}
 use Rattle.merge_command.specs.declared.lines.NewFile.{NewFile}
 use Rattle.merge_command.specs.declared.over.Came.{Came}
 
@@ -80,6 +80,17 @@ merge_of c = record {
 -- nothing was merged, for this
 abbrev pub refused_by : MergeRefusal → Merge
 refused_by refusal = record { files = []; refusal = Some refusal; name = [] }
+
+-- the one or the other
+abbrev pub merge_by : Result Came MergeRefusal → Merge
+merge_by (Ok came) = merge_of came
+merge_by (Err refusal) = refused_by refusal
+
+-- The archive was open before. No damage of it is told; and where a cause of the second archive is told, and no file, its disk
+-- was left alone.
+pub record ComesBehind {D : Type 0} (m : Merge) (old new : D) : Type 0 where
+  pub undamaged : (at : ℕ) → m.refusal ≢ Some (MergeRefusal.Damaged at)
+  pub alone : IsOfSecond m.refusal → m.files ≡ [] → new ≡ old
 
 -- the second archive may come behind the first, whose versions agree and whose files are not too many; or it may not
 abbrev pub Agrees : ℕ → ℕ → ℕ → ℕ → Result Unit MergeRefusal → Type 0

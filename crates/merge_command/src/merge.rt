@@ -1,26 +1,32 @@
 //! The command `merge`.
-ghost use Rattle.std.specs.Prelude.{◌≡◌, ◌≤◌, is_some, length, IfErr, IfOk, IfSome, IsTrue};
+ghost use Rattle.std.specs.Prelude.{◌≡◌, ◌≤◌, ℕ, is_some, length, IfErr, IfOk, IfSome, IsTrue};
+ghost use Rattle.disk_journal.specs.Journal.{state_of};
 ghost use Rattle.archive_open.specs.Archive.{shown};
 ghost use Rattle.command_refusals.specs.GoesOn.{DiskGoesOn};
 ghost use Rattle.command_refusals.specs.Outside.{AroundSinks};
 ghost use Rattle.command_refusals.specs.Reading.{IsArchive};
 ghost use Rattle.command_answers.specs.Answers.{AnswersMerge};
 ghost use Rattle.command_answers.specs.Known.{over, told_if};
-ghost use Rattle.command_answers.specs.Merging.{Merges, PrintsMerge, merged_line, merged_status};
+ghost use Rattle.command_answers.specs.Merging.{Merges, PrintsMerge, TellsInOrder, merged_line, merged_status};
 ghost use Rattle.command_refusals.specs.Refusal.{Says};
-ghost use Rattle.merge_command.specs.Came.{kept_by, merge_of, refused_by};
+ghost use Rattle.merge_command.specs.Came.{ComesBehind, kept_by, merge_by, merge_of, refused_by};
+ghost use Rattle.write_commands.specs.Naming.{IsHeldBy};
+ghost use Rattle.write_commands.specs.StepsKnown.{lent_state};
 
 use crate::lines::lines_of;
 use crate::over::{Came, add_second};
 use crate::refused::name_of;
+use archive_core::Books;
+use archive_open::{Archive, open_for_append};
 use command_refusals::{MergeRefusal, refusal_of_print, report, report_merge};
+use disk_journal::{Journal, start};
 use file_lines::print_directory;
 use log_seams::{Disk, Sink};
 use sink_pieces::PrintRefusal;
 use std::alloc::Global;
 use std::marker::{Brand, PhantomData};
 use std::sync::Wait;
-use write_commands::{Base, Founded, Lent};
+use write_commands::{Base, Founded, Holding, JournalEnd, Lent, hold};
 
 /// Writes why not all was merged, and answers the status.
 fn report_came<K: Sink>(err: &mut K, came: &Came) -> u8
@@ -57,39 +63,90 @@ fn print_came<K: Sink>(alloc: Global, came: &Came, out: &mut K, err: &mut K) -> 
     }
 }
 
-/// The same over a disk that is lent, which is an archive where its bytes are to be told. Gives the
-/// disk back.
-fn add_lent<'d, D: Disk, E: Disk, R: Wait, L: Lent>(
+/// Adds the files of the second archive behind those of an archive that was opened, over the disk of its
+/// journal, which tells its bytes only where it is to, and is an archive's there. Gives the disk back.
+fn add_founded<'d, D: Disk, E: Disk, R: Wait, L: Lent>(
     rt: &R,
     alloc: Global,
-    disk: &'d mut D,
+    journal: Journal<'d, D>,
+    holding: Holding,
     second: &mut E,
 ) -> (Result<Came, MergeRefusal>, &'d mut D)
-    requires lent { disk.ghost_name ≡ L.name }
-    requires told { is_some (D.state disk.old).seen ≡ L.told }
-    requires archive { IsTrue L.tells → IfSome (D.state disk.old).seen IsArchive }
+    requires lent { journal.disk.ghost_name ≡ L.name }
+    requires told { is_some (D.state journal.disk.now).seen ≡ L.told }
+    requires held { (name : ℕ) → IsHeldBy (lent_state L.tells name (state_of journal))
+        holding.types holding.words holding.files }
 
     // by the answer
     ensures came { IfOk result.0 (λ came. Merges (merge_of came) came.first
-        (told_if L.tells (D.state disk.old)) (told_if L.tells (D.state result.1.now))
-        (E.state second.old) (E.state second.new)) }
+        (told_if L.tells (D.state journal.entry.disk.now))
+        (told_if L.tells (D.state result.1.now)) (E.state second.old) (E.state second.new)) }
     ensures few { IfOk result.0 (λ came.
         length came.files.items ≤ length (shown kept_by came.second).files) }
     ensures refused { IfErr result.0 (λ refusal. Merges (refused_by refusal) 0
-        (told_if L.tells (D.state disk.old)) (told_if L.tells (D.state result.1.now))
-        (E.state second.old) (E.state second.new)) }
+        (told_if L.tells (D.state journal.entry.disk.now))
+        (told_if L.tells (D.state result.1.now)) (E.state second.old) (E.state second.new)) }
+    ensures behind { ComesBehind (merge_by result.0) journal.entry.disk.now result.1.now }
 
     // what stays
-    ensures back { result.1.ghost_name ≡ disk.entry.ghost_name }
-    ensures goes_on { DiskGoesOn (D.state disk.old) (D.state result.1.now) }
+    ensures back { result.1.ghost_name ≡ journal.entry.disk.ghost_name }
+    ensures goes_on { DiskGoesOn (D.state journal.entry.disk.now) (D.state result.1.now) }
+    ensures second { DiskGoesOn (E.state second.old) (E.state second.new) }
 {
+    let Journal {
+        disk,
+        header,
+        place,
+        count,
+        closed,
+    } = journal;
+    let end = JournalEnd {
+        header,
+        place,
+        count,
+        closed,
+    };
     let mut founded = Founded::<'d, D, L> {
         disk,
         lent: PhantomData,
     };
-    let answer = add_second(rt, alloc, &mut founded, second);
+    let answer = add_second(rt, alloc, end, holding, &mut founded, second);
     let Founded { disk, .. } = founded;
     (answer, disk)
+}
+
+/// Adds the files of the second archive behind those of the archive of a disk, which is an archive where
+/// its bytes are to be told. That the archive comes first, and where it is damaged, is told of any bytes.
+fn add_lent<D: Disk, E: Disk, R: Wait, L: Lent>(
+    rt: &R,
+    alloc: Global,
+    disk: &mut D,
+    second: &mut E,
+) -> Result<Came, MergeRefusal>
+    requires archive { IsTrue L.tells → IfSome (D.state disk.old).seen IsArchive }
+
+    // by the answer
+    ensures came { IfOk result (λ came. Merges (merge_of came) came.first
+        (told_if L.tells (D.state disk.old)) (told_if L.tells (D.state disk.new))
+        (E.state second.old) (E.state second.new)) }
+    ensures few { IfOk result (λ came.
+        length came.files.items ≤ length (shown kept_by came.second).files) }
+    ensures refused { IfErr result (λ refusal. Merges (refused_by refusal) 0
+        (told_if L.tells (D.state disk.old)) (told_if L.tells (D.state disk.new))
+        (E.state second.old) (E.state second.new)) }
+    ensures in_order { TellsInOrder (merge_by result) (D.state disk.old) (D.state disk.new) }
+
+    // what stays
+    ensures goes_on { DiskGoesOn (D.state disk.old) (D.state disk.new) }
+    ensures second { DiskGoesOn (E.state second.old) (E.state second.new) }
+{
+    let header = start(disk)?;
+    let mut journal = Journal::begin(disk, header);
+    let archive: Archive<Books> = open_for_append(alloc, &mut journal)?;
+    let files = archive.files().as_slice().len() as u64;
+    let holding = hold(archive.into_books(), files);
+    let (answer, _disk) = add_founded::<D, E, R, Brand>(rt, alloc, journal, holding, second);
+    answer
 }
 
 /// The same over any disk: what is said of its bytes is said where they are those of the archive
@@ -111,12 +168,13 @@ fn add_known<D: Disk, E: Disk, R: Wait, B: Base>(
         (over B.archive (D.state disk.old) (D.state disk.old))
         (over B.archive (D.state disk.old) (D.state disk.new))
         (E.state second.old) (E.state second.new)) }
+    ensures in_order { TellsInOrder (merge_by result) (D.state disk.old) (D.state disk.new) }
 
     // what stays
     ensures goes_on { DiskGoesOn (D.state disk.old) (D.state disk.new) }
+    ensures second { DiskGoesOn (E.state second.old) (E.state second.new) }
 {
-    let (answer, _disk) = add_lent::<D, E, R, Brand>(rt, alloc, disk, second);
-    answer
+    add_lent::<D, E, R, Brand>(rt, alloc, disk, second)
 }
 
 /// Adds the files of the second archive behind those of the archive, and prints a line for each new
@@ -132,7 +190,10 @@ pub fn merge_archives<R: Wait, D: Disk, E: Disk, K: Sink, B: Base>(
     ensures answers { AroundSinks K.written K.faults out.old out.new err.old err.new (λ seen.
         AnswersMerge B.archive seen (D.state disk.old) (D.state disk.new)
         (E.state second.old) (E.state second.new) result) }
+
+    // whatever the answer
     ensures goes_on { DiskGoesOn (D.state disk.old) (D.state disk.new) }
+    ensures second { DiskGoesOn (E.state second.old) (E.state second.new) }
     ensures out { K.faults out.old ≤ K.faults out.new }
     ensures err { K.faults err.old ≤ K.faults err.new }
 {

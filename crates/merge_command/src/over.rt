@@ -1,5 +1,5 @@
 //! The files of a second archive, added to an archive.
-ghost use Rattle.std.specs.Prelude.{◌≡◌, ◌≤◌, [], length, IfErr, IfOk, IfSome};
+ghost use Rattle.std.specs.Prelude.{◌≡◌, ◌≤◌, ℕ, [], length, IfErr, IfOk};
 ghost use Rattle.log_seams.specs.Disk.{KeepsBytes};
 ghost use Rattle.disk_journal.specs.Journal.{state_of};
 ghost use Rattle.archive_open.specs.Archive.{shown};
@@ -8,22 +8,23 @@ ghost use Rattle.ingest_workers.specs.Ingested.{HoldTexts};
 ghost use Rattle.archive_merge.specs.Merging.{EndsMerge, MayMerge, WasOnlyRead, view_of};
 ghost use Rattle.archive_merge.specs.Named.{names_of};
 ghost use Rattle.command_refusals.specs.GoesOn.{DiskGoesOn};
-ghost use Rattle.command_refusals.specs.Reading.{IsArchive};
 ghost use Rattle.command_answers.specs.Merging.{Merges};
-ghost use Rattle.merge_command.specs.Came.{Agrees, kept_by, merge_of, refused_by, view_shown, RefusesSecond};
+ghost use Rattle.merge_command.specs.Came.{Agrees, ComesBehind, kept_by, merge_by, merge_of, refused_by, view_shown, RefusesSecond};
+ghost use Rattle.write_commands.specs.JournalAt.{state_at};
+ghost use Rattle.write_commands.specs.Naming.{IsHeldBy};
 
 use crate::refused::{place_of, refusal_of};
-use archive_core::Books;
 use archive_meaning::MAX_FILES;
 use archive_merge::{MergeEnd, MergeRefusal as Why, Merged, ToMerge, merge, segments_go_on};
-use archive_open::{Archive, PlainBooks, open_archive, open_for_append};
+use archive_open::{Archive, PlainBooks, open_archive};
 use command_refusals::{MergeRefusal, of_second};
 use dict_core::Book;
-use disk_journal::{Journal, start};
+use disk_journal::Journal;
 use log_seams::Disk;
 use row_codec::Names;
 use std::alloc::Global;
 use std::sync::Wait;
+use write_commands::{Holding, JournalEnd};
 
 /// What came of a merge.
 #[derive(Drop)]
@@ -50,6 +51,7 @@ fn open_second<E: Disk>(alloc: Global, disk: &mut E) -> Result<Archive<PlainBook
     ensures refused { IfErr result (RefusesSecond (E.state disk.old) (E.state disk.new)) }
     ensures steady { IfOk result (λ archive.
         (E.state disk.new).faults ≡ (E.state disk.old).faults) }
+    ensures later { (E.state disk.old).faults ≤ (E.state disk.new).faults }
 {
     match open_archive(alloc, disk) {
         Ok(archive) => Ok(archive),
@@ -125,19 +127,19 @@ fn merge_opened<'a: 's, 's, 'd, E: Disk, D: Disk, R: Wait>(
     second: &'a Archive<PlainBooks>,
     disk: &'s mut E,
     journal: Journal<'d, D>,
-    books: Books,
+    holding: Holding,
     files: &mut Vec<Merged>,
 ) -> Returned<'s, 'd, E, D>
     requires begin { MayMerge first (shown kept_by second.now).kept.version
         (length (shown kept_by second.now).files) journal }
-    requires books { HoldTexts (state_of journal) books.types books.words }
+    requires books { HoldTexts (state_of journal) holding.types holding.words }
     ensures ends { EndsMerge (view_shown (shown kept_by second.now) (E.state disk.old).seen) first
         (names_of (shown kept_by second.now).files) files.new.items result.refusal
         journal.entry result.journal }
     ensures none { (shown kept_by second.now).files ≡ [] → result.journal ≡ journal.entry }
     ensures second { WasOnlyRead E.state result.refusal disk.entry result.disk }
 {
-    let Books { types, words, .. } = books;
+    let Holding { types, words, .. } = holding;
     let to_merge = ToMerge {
         names: second.names(),
         files: second.files().as_slice(),
@@ -147,19 +149,23 @@ fn merge_opened<'a: 's, 's, 'd, E: Disk, D: Disk, R: Wait>(
     merge_into(rt, alloc, first, to_merge, journal, types, words, files)
 }
 
-/// Adds the files of the second archive behind those of the archive of a disk.
+/// Adds the files of the second archive behind those of an archive that was opened, and has this, over
+/// its disk, where its journal has come to this.
 ///
 /// # Errors
 ///
-/// An archive could not be opened, or the second one may not come behind the first. Nothing was
-/// written then.
+/// The second archive could not be opened, or may not come behind the first. The disk was left alone
+/// then.
 pub(crate) fn add_second<D: Disk, E: Disk, R: Wait>(
     rt: &R,
     alloc: Global,
+    end: JournalEnd,
+    holding: Holding,
     disk: &mut D,
     second: &mut E,
 ) -> Result<Came, MergeRefusal>
-    requires archive { IfSome (D.state disk.old).seen IsArchive }
+    requires held { (name : ℕ) → IsHeldBy (state_at name (D.state disk.old) end)
+        holding.types holding.words holding.files }
 
     // by the answer
     ensures came { IfOk result (λ came. Merges (merge_of came) came.first
@@ -168,20 +174,26 @@ pub(crate) fn add_second<D: Disk, E: Disk, R: Wait>(
         length came.files.items ≤ length (shown kept_by came.second).files) }
     ensures refused { IfErr result (λ refusal. Merges (refused_by refusal) 0
         (D.state disk.old) (D.state disk.new) (E.state second.old) (E.state second.new)) }
+    ensures behind { ComesBehind (merge_by result) disk.old disk.new }
 
     // what stays
     ensures goes_on { DiskGoesOn (D.state disk.old) (D.state disk.new) }
+    ensures second { DiskGoesOn (E.state second.old) (E.state second.new) }
 {
     segments_go_on();
-    let header = start(disk)?;
-    let mut journal = Journal::begin(disk, header);
-    let archive: Archive<Books> = open_for_append(alloc, &mut journal)?;
     let second_archive: Archive<PlainBooks> = open_second(alloc, second)?;
-    let held = archive.files().as_slice().len() as u64;
+    let held = holding.files;
+    let other = second_archive.names().version();
     let more = second_archive.files().as_slice().len() as u64;
-    agree(header.version, held, second_archive.names().version(), more)?;
+    agree(end.header.version, held, other, more)?;
     let first = held as u32;
-    let books = archive.into_books();
+    let journal = Journal {
+        disk,
+        header: end.header,
+        place: end.place,
+        count: end.count,
+        closed: end.closed,
+    };
     let mut files = Vec::new(alloc);
     // taken apart, it would not be known how the loan of the journal's disk ends
     let left = merge_opened(
@@ -191,7 +203,7 @@ pub(crate) fn add_second<D: Disk, E: Disk, R: Wait>(
         &second_archive,
         second,
         journal,
-        books,
+        holding,
         &mut files,
     );
     let refusal = left.refusal;
