@@ -131,13 +131,9 @@ module _ {S : Type 0} where
 not_stopped : (s : StoreState) → Kept s → ¬ Rose s.opened.faults s.disk.faults → s.stopped ≡ None
 not_stopped s kept steady = by_mark s.stopped (λ n is. kept.fault n is)
   where
-    later : (a b c : ℕ) → Rose a b → b ≤ c → Rose a c
-    later a b c (inl lt) le = inl (omega arith)
-    later a b c (inr most) le = inr (omega arith)
-
-    by_mark : (o : Option ℕ) → ((n : ℕ) → o ≡ Some n → Rose s.opened.faults n × (n ≤ s.disk.faults)) → o ≡ None
+    by_mark : (o : Option ℕ) → ((n : ℕ) → o ≡ Some n → Rose s.opened.faults n × (n ≡ s.disk.faults)) → o ≡ None
     by_mark None f = refl
-    by_mark (Some n) f = let r = f n refl in absurd (steady (later s.opened.faults n s.disk.faults r.0 r.1))
+    by_mark (Some n) f = let r = f n refl in absurd (steady (subst (λ (m : ℕ). Rose s.opened.faults m) r.1 r.0))
 
 -- a store that runs may be opened again
 opens_again : (s : StoreState) → Kept s → s.stopped ≡ None → MayOpen (journal_state s)
