@@ -9,7 +9,6 @@ use Rattle.disk_journal.specs.Calls.{HasNoHeader}
 use Rattle.disk_journal.specs.declared.refusals.StartRefusal.{StartRefusal}
 use Rattle.archive_meaning.specs.declared.entry.JournalEntry.{JournalEntry}
 use Rattle.archive_meaning.specs.Held.{Held}
-use Rattle.archive_meaning.specs.Stands.{StandsFor}
 use Rattle.archive_open.specs.Shown.{HasLastGate, RefusedAt, Shown, StandsForNone}
 use Rattle.archive_open.specs.declared.refusal.ArchiveRefusal.{ArchiveRefusal}
 use Rattle.archive_open.proofs.OpenLemmas.{start_refused}

@@ -24,9 +24,9 @@ use file_lines::print_directory;
 use log_seams::{Disk, Sink};
 use sink_pieces::PrintRefusal;
 use std::alloc::Global;
-use std::marker::{Brand, PhantomData};
+use std::marker::Brand;
 use std::sync::Wait;
-use write_commands::{Base, Founded, Holding, JournalEnd, Lent, hold};
+use write_commands::{Base, Founded, Holding, Lent, PartedJournal, hold, part_journal};
 
 /// Writes why not all was merged, and answers the status.
 fn report_came<K: Sink>(err: &mut K, came: &Came) -> u8
@@ -93,23 +93,7 @@ fn add_founded<'d, D: Disk, E: Disk, R: Wait, L: Lent>(
     ensures goes_on { DiskGoesOn (D.state journal.entry.disk.now) (D.state result.1.now) }
     ensures second { DiskGoesOn (E.state second.old) (E.state second.new) }
 {
-    let Journal {
-        disk,
-        header,
-        place,
-        count,
-        closed,
-    } = journal;
-    let end = JournalEnd {
-        header,
-        place,
-        count,
-        closed,
-    };
-    let mut founded = Founded::<'d, D, L> {
-        disk,
-        lent: PhantomData,
-    };
+    let PartedJournal { mut founded, end } = part_journal::<D, L>(journal);
     let answer = add_second(rt, alloc, end, holding, &mut founded, second);
     let Founded { disk, .. } = founded;
     (answer, disk)

@@ -1,10 +1,7 @@
-use Rattle.std.proofs.Common.{ap, arith, length, refl, subst, sym, ◌≡◌, ◌≤◌, ◌∙◌}
+use Rattle.std.proofs.Common.{ap, length, refl, subst, sym, ◌≡◌, ◌∙◌}
 use Rattle.std.specs.Prelude.{IfErr, IfOk, IfSome}
 use Rattle.std.proofs.lemmas.Result.{IfErr-weaker, IfOk-weaker, err_from_is_err_and}
-use Rattle.log_seams.specs.Disk.{KeepsBytes}
-use Rattle.log_seams.proofs.MomentLemmas.{keeps_on}
 use Rattle.disk_journal.specs.Journal.{state_of}
-use Rattle.disk_journal.specs.State.{BeginsWith}
 use Rattle.disk_journal.specs.declared.refusals.StartRefusal.{StartRefusal}
 use Rattle.archive_open.specs.Kept.{Kept}
 use Rattle.archive_open.specs.declared.refusal.ArchiveRefusal.{ArchiveRefusal}
@@ -15,11 +12,10 @@ use Rattle.command_refusals.proofs.GoingLemmas.{DiskGoesOn-joined}
 use Rattle.command_answers.specs.Known.{told_if}
 use Rattle.command_answers.specs.Merging.{Merges, TellsInOrder}
 use Rattle.merge_command.specs.Came.{merge_by, merge_of, refused_by}
-use Rattle.write_commands.specs.StepsKnown.{lent_state, told_lawful}
+use Rattle.write_commands.specs.StepsKnown.{lent_state}
 use Rattle.write_commands.proofs.AppendLemmas.{is_held}
-use Rattle.write_commands.proofs.HeldLemmas.{looked_goes, rests_keep}
-use Rattle.write_commands.proofs.LentLemmas.{OpensAny, from_any, goes_told, keeps_twice, looked_told, opens_told}
-use Rattle.write_commands.proofs.StepsLemmas.{Looked}
+use Rattle.write_commands.proofs.HeldLemmas.{once_goes, once_keeps, opened_once}
+use Rattle.write_commands.proofs.LentLemmas.{goes_told, keeps_twice, looked_told, opens_from, opens_told}
 use Rattle.merge_command.proofs.OpeningLemmas.{behind_tells, can_be_opened, merges_sooner, open_refuses, opening_merges, opening_tells, start_refuses, steady_with, tells_with}
 use Rattle.merge_command.proofs.WholeLemmas.{err_with}
 use Rattle.merge_command.proofs.merge.add_lent.Goals as goal
@@ -54,57 +50,45 @@ returns-in_err-archive-clause-refused g c =
     let old = g.D.Disk.state c.args.disk.now in
     let mid = g.D.Disk.state c.begin-journal.result.disk.now in
     let late = g.D.Disk.state c.open_for_append.new.journal.disk.now in
-    let second = g.E.Disk.state c.args.second.now in
-    let tells = g.L.Lent.tells in
     let opened = c.open_for_append.ensures in
-    let same = sym c.begin-journal.ensures.disk in
-    let first = subst (λ d. KeepsBytes old (g.D.Disk.state d)) same c.start.ensures.keeps in
-    let keeps = keeps_on old mid late first opened.looks.rests in
-    let risen = subst (λ d. old.faults ≤ (g.D.Disk.state d).faults) same c.start.ensures.counts.later in
+    let once = opened_once g.D.Disk.state law c.args.disk.now c.start.new.disk c.begin-journal.result.disk.now
+    c.open_for_append.new.journal.disk.now c.begin-journal.ensures.disk c.start.ensures.keeps c.start.ensures.counts.later
+    opened.looks.rests opened.counts.later in
     let p = err_from_is_err_and c.from_residual-in_err-archive.result c.from_residual-in_err-archive.ensures.1 in
     let back = c.in_err-archive.disk-1-own.given.1 (sym (opened.looks.name ∙ c.begin-journal.ensures.name)) in
+    let refuses = open_refuses old mid late c.open_for_append.result c.in_err-archive.field-0.0 c.in_err-archive.was once.looked.first once.risen opened.damaged opened.counts in
+    let second = g.E.Disk.state c.args.second.now in
+    let tells = g.L.Lent.tells in
     subst (λ d. IfErr c.from_residual-in_err-archive.result (λ refusal. Merges (refused_by refusal) 0 (told_if tells old) (told_if tells (g.D.Disk.state d)) second second)) (sym back)
     (err_with (λ refusal. Merges (refused_by refusal) 0 (told_if tells old) (told_if tells late) second second) c.from_residual-in_err-archive.result p.0 _ p.1 p.2
-    (opening_merges tells old late second (law _) (law _) keeps (omega (arith, risen, opened.counts.later)) (merge_from_archive c.in_err-archive.field-0.0)
-    (open_refuses old mid late c.open_for_append.result c.in_err-archive.field-0.0 c.in_err-archive.was first risen opened.damaged opened.counts)))
+    (opening_merges tells old late second (law _) (law _) (once_keeps once) once.looked.counts (merge_from_archive c.in_err-archive.field-0.0) refuses))
 
 pub returns-in_err-archive-clause-in_order : goal.returns-in_err-archive-clause-in_order
 returns-in_err-archive-clause-in_order g c =
-    let old = g.D.Disk.state c.args.disk.now in
-    let mid = g.D.Disk.state c.begin-journal.result.disk.now in
-    let late = g.D.Disk.state c.open_for_append.new.journal.disk.now in
-    let opened = c.open_for_append.ensures in
-    let same = sym c.begin-journal.ensures.disk in
-    let first = subst (λ d. KeepsBytes old (g.D.Disk.state d)) same c.start.ensures.keeps in
-    let keeps = keeps_on old mid late first opened.looks.rests in
-    let risen = subst (λ d. old.faults ≤ (g.D.Disk.state d).faults) same c.start.ensures.counts.later in
-    let p = err_from_is_err_and c.from_residual-in_err-archive.result c.from_residual-in_err-archive.ensures.1 in
-    let back = c.in_err-archive.disk-1-own.given.1 (sym (opened.looks.name ∙ c.begin-journal.ensures.name)) in
-    subst (λ d. TellsInOrder (merge_by c.from_residual-in_err-archive.result) old (g.D.Disk.state d)) (sym back)
-    (tells_with old late c.from_residual-in_err-archive.result p.0 _ p.1 p.2
-    (opening_tells old late keeps (merge_from_archive c.in_err-archive.field-0.0)
-    (open_refuses old mid late c.open_for_append.result c.in_err-archive.field-0.0 c.in_err-archive.was first risen opened.damaged opened.counts)))
-
-pub returns-in_err-archive-clause-goes_on : goal.returns-in_err-archive-clause-goes_on
-returns-in_err-archive-clause-goes_on g c =
     let law = g.met.D.Disk.lawful in
     let old = g.D.Disk.state c.args.disk.now in
     let mid = g.D.Disk.state c.begin-journal.result.disk.now in
     let late = g.D.Disk.state c.open_for_append.new.journal.disk.now in
     let opened = c.open_for_append.ensures in
-    let same = sym c.begin-journal.ensures.disk in
-    let first = subst (λ d. KeepsBytes old (g.D.Disk.state d)) same c.start.ensures.keeps in
-    let risen = subst (λ d. old.faults ≤ (g.D.Disk.state d).faults) same c.start.ensures.counts.later in
-    let looked : Looked old mid late = record {
-      law_old = law _;
-      law_mid = law _;
-      law_new = law _;
-      first = first;
-      second = rests_keep mid late opened.looks.rests;
-      counts = omega (arith, risen, opened.counts.later);
-    } in
+    let once = opened_once g.D.Disk.state law c.args.disk.now c.start.new.disk c.begin-journal.result.disk.now
+    c.open_for_append.new.journal.disk.now c.begin-journal.ensures.disk c.start.ensures.keeps c.start.ensures.counts.later
+    opened.looks.rests opened.counts.later in
+    let p = err_from_is_err_and c.from_residual-in_err-archive.result c.from_residual-in_err-archive.ensures.1 in
     let back = c.in_err-archive.disk-1-own.given.1 (sym (opened.looks.name ∙ c.begin-journal.ensures.name)) in
-    subst (λ d. DiskGoesOn old (g.D.Disk.state d)) (sym back) (looked_goes old mid late looked risen opened.counts.later)
+    let refuses = open_refuses old mid late c.open_for_append.result c.in_err-archive.field-0.0 c.in_err-archive.was once.looked.first once.risen opened.damaged opened.counts in
+    subst (λ d. TellsInOrder (merge_by c.from_residual-in_err-archive.result) old (g.D.Disk.state d)) (sym back)
+    (tells_with old late c.from_residual-in_err-archive.result p.0 _ p.1 p.2 (opening_tells old late (once_keeps once) (merge_from_archive c.in_err-archive.field-0.0) refuses))
+
+pub returns-in_err-archive-clause-goes_on : goal.returns-in_err-archive-clause-goes_on
+returns-in_err-archive-clause-goes_on g c =
+    let law = g.met.D.Disk.lawful in
+    let old = g.D.Disk.state c.args.disk.now in
+    let opened = c.open_for_append.ensures in
+    let once = opened_once g.D.Disk.state law c.args.disk.now c.start.new.disk c.begin-journal.result.disk.now
+    c.open_for_append.new.journal.disk.now c.begin-journal.ensures.disk c.start.ensures.keeps c.start.ensures.counts.later
+    opened.looks.rests opened.counts.later in
+    let back = c.in_err-archive.disk-1-own.given.1 (sym (opened.looks.name ∙ c.begin-journal.ensures.name)) in
+    subst (λ d. DiskGoesOn old (g.D.Disk.state d)) (sym back) (once_goes once)
 
 -- ---- behind the opening
 
@@ -117,16 +101,10 @@ add_founded-answer-requires-clause-told g c = refl
 pub add_founded-answer-requires-clause-held : goal.add_founded-answer-requires-clause-held
 add_founded-answer-requires-clause-held g c = λ name.
     let opened = c.open_for_append.ensures in
-    let same = sym c.begin-journal.ensures.disk in
-    let any : OpensAny (state_of c.begin-journal.result) (state_of c.open_for_append.new.journal) _ = record {
-      begins = subst (λ h. BeginsWith h (g.D.Disk.state c.begin-journal.result.disk.now)) (sym c.begin-journal.ensures.header) (subst (λ d. BeginsWith c.in_ok-header.header (g.D.Disk.state d)) same c.in_ok-header.ensures.begins);
-      looks = opened.looks;
-      opened = c.in_ok-archive.ensures.opened;
-      header = c.in_ok-archive.ensures.header;
-      ends = c.in_ok-archive.ensures.at_end;
-    } in
-    let from = from_any g.L.Lent.tells name (state_of c.begin-journal.result) (state_of c.open_for_append.new.journal) _ any
-    (λ tells. subst (λ d. IfSome (g.D.Disk.state d).seen IsArchive) same (subst (λ t. IfSome t IsArchive) (sym c.start.ensures.keeps.seen) (c.requires.archive tells))) in
+    let from = opens_from g.L.Lent.tells name c.begin-journal.result c.open_for_append.new.journal c.start.new.disk c.in_ok-header.header _
+    c.begin-journal.ensures.header c.begin-journal.ensures.disk c.in_ok-header.ensures.begins
+    opened.looks c.in_ok-archive.ensures.opened c.in_ok-archive.ensures.header c.in_ok-archive.ensures.at_end
+    (λ tells. subst (λ d. IfSome (g.D.Disk.state d).seen IsArchive) (sym c.begin-journal.ensures.disk) (subst (λ t. IfSome t IsArchive) (sym c.start.ensures.keeps.seen) (c.requires.archive tells))) in
     let books = c.into_books.ensures in
     let hold = c.hold-holding.ensures in
     rw (hold.types) (rw (hold.words) (rw (hold.files) (is_held (lent_state g.L.Lent.tells name (state_of c.begin-journal.result)) (lent_state g.L.Lent.tells name (state_of c.open_for_append.new.journal)) _ _ from
@@ -140,28 +118,21 @@ returns-clause-came g c =
     let old = g.D.Disk.state c.args.disk.now in
     let mid = g.D.Disk.state c.begin-journal.result.disk.now in
     let late = g.D.Disk.state c.open_for_append.new.journal.disk.now in
-    let second = g.E.Disk.state c.args.second.now in
-    let tells = g.L.Lent.tells in
     let opened = c.open_for_append.ensures in
-    let same = sym c.begin-journal.ensures.disk in
-    let first = subst (λ d. KeepsBytes old (g.D.Disk.state d)) same c.start.ensures.keeps in
-    let risen = subst (λ d. old.faults ≤ (g.D.Disk.state d).faults) same c.start.ensures.counts.later in
-    let looked : Looked old mid late = record {
-      law_old = law _;
-      law_mid = law _;
-      law_new = law _;
-      first = first;
-      second = rests_keep mid late opened.looks.rests;
-      counts = omega (arith, risen, opened.counts.later);
-    } in
+    let once = opened_once g.D.Disk.state law c.args.disk.now c.start.new.disk c.begin-journal.result.disk.now
+    c.open_for_append.new.journal.disk.now c.begin-journal.ensures.disk c.start.ensures.keeps c.start.ensures.counts.later
+    opened.looks.rests opened.counts.later in
     let done = c.add_founded-answer.ensures in
-    let last = g.D.Disk.state c.add_founded-answer.result.1.now in
-    let second_new = g.E.Disk.state c.add_founded-answer.new.second in
     let back = c.disk-2-1.given.1 (sym (done.back ∙ (opened.looks.name ∙ c.begin-journal.ensures.name))) in
-    let looked_as = looked_told tells old mid late looked in
-    let kept = keeps_twice (told_if tells old) (told_if tells mid) (told_if tells late) looked_as.law_old looked_as.first looked_as.second in
+    let last = g.D.Disk.state c.add_founded-answer.result.1.now in
+    let second = g.E.Disk.state c.args.second.now in
+    let second_new = g.E.Disk.state c.add_founded-answer.new.second in
+    let tells = g.L.Lent.tells in
+    let looked = looked_told tells old mid late once.looked in
+    let keeps = keeps_twice (told_if tells old) (told_if tells mid) (told_if tells late) looked.law_old looked.first looked.second in
+    let goes = goes_told tells late last done.goes_on in
     subst (λ d. IfOk c.add_founded-answer.result.0 (λ came. Merges (merge_of came) came.first (told_if tells old) (told_if tells (g.D.Disk.state d)) second second_new)) (sym back)
-    (IfOk-weaker c.add_founded-answer.result.0 _ _ (λ came merges. merges_sooner (told_if tells old) (told_if tells late) (told_if tells last) second second_new looked_as.law_old looked_as.law_new kept looked.counts (goes_told tells late last done.goes_on) (merge_of came) came.first merges) done.came)
+    (IfOk-weaker c.add_founded-answer.result.0 _ _ (λ came merges. merges_sooner (told_if tells old) (told_if tells late) (told_if tells last) second second_new looked.law_old looked.law_new keeps once.looked.counts goes (merge_of came) came.first merges) done.came)
 
 pub returns-clause-refused : goal.returns-clause-refused
 returns-clause-refused g c =
@@ -169,64 +140,50 @@ returns-clause-refused g c =
     let old = g.D.Disk.state c.args.disk.now in
     let mid = g.D.Disk.state c.begin-journal.result.disk.now in
     let late = g.D.Disk.state c.open_for_append.new.journal.disk.now in
-    let second = g.E.Disk.state c.args.second.now in
-    let tells = g.L.Lent.tells in
     let opened = c.open_for_append.ensures in
-    let same = sym c.begin-journal.ensures.disk in
-    let first = subst (λ d. KeepsBytes old (g.D.Disk.state d)) same c.start.ensures.keeps in
-    let risen = subst (λ d. old.faults ≤ (g.D.Disk.state d).faults) same c.start.ensures.counts.later in
-    let looked : Looked old mid late = record {
-      law_old = law _;
-      law_mid = law _;
-      law_new = law _;
-      first = first;
-      second = rests_keep mid late opened.looks.rests;
-      counts = omega (arith, risen, opened.counts.later);
-    } in
+    let once = opened_once g.D.Disk.state law c.args.disk.now c.start.new.disk c.begin-journal.result.disk.now
+    c.open_for_append.new.journal.disk.now c.begin-journal.ensures.disk c.start.ensures.keeps c.start.ensures.counts.later
+    opened.looks.rests opened.counts.later in
     let done = c.add_founded-answer.ensures in
-    let last = g.D.Disk.state c.add_founded-answer.result.1.now in
-    let second_new = g.E.Disk.state c.add_founded-answer.new.second in
     let back = c.disk-2-1.given.1 (sym (done.back ∙ (opened.looks.name ∙ c.begin-journal.ensures.name))) in
-    let looked_as = looked_told tells old mid late looked in
-    let kept = keeps_twice (told_if tells old) (told_if tells mid) (told_if tells late) looked_as.law_old looked_as.first looked_as.second in
+    let last = g.D.Disk.state c.add_founded-answer.result.1.now in
+    let second = g.E.Disk.state c.args.second.now in
+    let second_new = g.E.Disk.state c.add_founded-answer.new.second in
+    let tells = g.L.Lent.tells in
+    let looked = looked_told tells old mid late once.looked in
+    let keeps = keeps_twice (told_if tells old) (told_if tells mid) (told_if tells late) looked.law_old looked.first looked.second in
+    let goes = goes_told tells late last done.goes_on in
     subst (λ d. IfErr c.add_founded-answer.result.0 (λ refusal. Merges (refused_by refusal) 0 (told_if tells old) (told_if tells (g.D.Disk.state d)) second second_new)) (sym back)
-    (IfErr-weaker c.add_founded-answer.result.0 _ _ (λ refusal merges. merges_sooner (told_if tells old) (told_if tells late) (told_if tells last) second second_new looked_as.law_old looked_as.law_new kept looked.counts (goes_told tells late last done.goes_on) (refused_by refusal) 0 merges) done.refused)
+    (IfErr-weaker c.add_founded-answer.result.0 _ _ (λ refusal merges. merges_sooner (told_if tells old) (told_if tells late) (told_if tells last) second second_new looked.law_old looked.law_new keeps once.looked.counts goes (refused_by refusal) 0 merges) done.refused)
 
 pub returns-clause-in_order : goal.returns-clause-in_order
 returns-clause-in_order g c =
-    let old = g.D.Disk.state c.args.disk.now in
-    let mid = g.D.Disk.state c.begin-journal.result.disk.now in
-    let late = g.D.Disk.state c.open_for_append.new.journal.disk.now in
-    let opened = c.open_for_append.ensures in
-    let same = sym c.begin-journal.ensures.disk in
-    let first = subst (λ d. KeepsBytes old (g.D.Disk.state d)) same c.start.ensures.keeps in
-    let keeps = keeps_on old mid late first opened.looks.rests in
-    let begun = subst (λ d. (g.D.Disk.state d).faults ≡ old.faults) same (steady_with old.faults (g.D.Disk.state c.start.new.disk).faults StartRefusal.DiskFault c.start.result c.in_ok-header.header c.in_ok-header.was c.start.ensures.counts) in
-    let steady = steady_with mid.faults late.faults ArchiveRefusal.DiskFault c.open_for_append.result c.in_ok-archive.archive c.in_ok-archive.was opened.counts ∙ begun in
-    let done = c.add_founded-answer.ensures in
-    let back = c.disk-2-1.given.1 (sym (done.back ∙ (opened.looks.name ∙ c.begin-journal.ensures.name))) in
-    subst (λ d. TellsInOrder (merge_by c.add_founded-answer.result.0) old (g.D.Disk.state d)) (sym back)
-    (behind_tells g.D.Disk.state (merge_by c.add_founded-answer.result.0) old c.open_for_append.new.journal.disk.now c.add_founded-answer.result.1.now keeps steady (can_be_opened old mid _ first c.in_ok-archive.ensures.last) done.behind)
-
-pub returns-clause-goes_on : goal.returns-clause-goes_on
-returns-clause-goes_on g c =
     let law = g.met.D.Disk.lawful in
     let old = g.D.Disk.state c.args.disk.now in
     let mid = g.D.Disk.state c.begin-journal.result.disk.now in
     let late = g.D.Disk.state c.open_for_append.new.journal.disk.now in
     let opened = c.open_for_append.ensures in
-    let same = sym c.begin-journal.ensures.disk in
-    let first = subst (λ d. KeepsBytes old (g.D.Disk.state d)) same c.start.ensures.keeps in
-    let risen = subst (λ d. old.faults ≤ (g.D.Disk.state d).faults) same c.start.ensures.counts.later in
-    let looked : Looked old mid late = record {
-      law_old = law _;
-      law_mid = law _;
-      law_new = law _;
-      first = first;
-      second = rests_keep mid late opened.looks.rests;
-      counts = omega (arith, risen, opened.counts.later);
-    } in
+    let once = opened_once g.D.Disk.state law c.args.disk.now c.start.new.disk c.begin-journal.result.disk.now
+    c.open_for_append.new.journal.disk.now c.begin-journal.ensures.disk c.start.ensures.keeps c.start.ensures.counts.later
+    opened.looks.rests opened.counts.later in
+    let done = c.add_founded-answer.ensures in
+    let back = c.disk-2-1.given.1 (sym (done.back ∙ (opened.looks.name ∙ c.begin-journal.ensures.name))) in
+    let begun = subst (λ d. (g.D.Disk.state d).faults ≡ old.faults) (sym c.begin-journal.ensures.disk)
+    (steady_with old.faults (g.D.Disk.state c.start.new.disk).faults StartRefusal.DiskFault c.start.result c.in_ok-header.header c.in_ok-header.was c.start.ensures.counts) in
+    let steady = steady_with mid.faults late.faults ArchiveRefusal.DiskFault c.open_for_append.result c.in_ok-archive.archive c.in_ok-archive.was opened.counts in
+    subst (λ d. TellsInOrder (merge_by c.add_founded-answer.result.0) old (g.D.Disk.state d)) (sym back)
+    (behind_tells g.D.Disk.state (merge_by c.add_founded-answer.result.0) old c.open_for_append.new.journal.disk.now c.add_founded-answer.result.1.now (once_keeps once) (steady ∙ begun) (can_be_opened old mid _ once.looked.first c.in_ok-archive.ensures.last) done.behind)
+
+pub returns-clause-goes_on : goal.returns-clause-goes_on
+returns-clause-goes_on g c =
+    let law = g.met.D.Disk.lawful in
+    let old = g.D.Disk.state c.args.disk.now in
+    let late = g.D.Disk.state c.open_for_append.new.journal.disk.now in
+    let opened = c.open_for_append.ensures in
+    let once = opened_once g.D.Disk.state law c.args.disk.now c.start.new.disk c.begin-journal.result.disk.now
+    c.open_for_append.new.journal.disk.now c.begin-journal.ensures.disk c.start.ensures.keeps c.start.ensures.counts.later
+    opened.looks.rests opened.counts.later in
     let done = c.add_founded-answer.ensures in
     let back = c.disk-2-1.given.1 (sym (done.back ∙ (opened.looks.name ∙ c.begin-journal.ensures.name))) in
     subst (λ d. DiskGoesOn old (g.D.Disk.state d)) (sym back)
-    (DiskGoesOn-joined old late _ (law _) (looked_goes old mid late looked risen opened.counts.later) done.goes_on)
+    (DiskGoesOn-joined old late _ (law _) (once_goes once) done.goes_on)
