@@ -155,8 +155,23 @@ end
 is 0 $numbered
 least 3 k
 
+# ---- a page of few rows is searched before the next one is read, by any number of workers: told by
+# the calls of the disk
+play search --workers=1
+count n
+least 1 n
+play search --workers=2
+calls n
+play search --workers=9
+calls n
+
 # ---- a decode whose first write fails reads the first of nine segments alone: told by the calls of the
 # disk
+test once
+repeat line 40000 x
+text line $line "\n"
+repeat long 9 $line
+log l.log $long
 row
 disk $empty
 call ingest --segment=1 l.log
@@ -169,16 +184,6 @@ call decode 0
 is 7 "" $output_failed
 count c
 least c-b+16 b-a
-
-# ---- a page of few rows is searched before the next one is read, by any number of workers: told by
-# the calls of the disk
-play search --workers=1
-count n
-least 1 n
-play search --workers=2
-calls n
-play search --workers=9
-calls n
 
 # ---- a search whose first write fails
 part search
@@ -194,6 +199,12 @@ back
 #[test]
 fn a_first_write_that_fails_is_told(rt: HostRuntime) {
     let line = failing_line(&rt, rt.alloc(), OUTPUT_SCRIPT, "first");
+    assert!(rt; line == 0, "line {line}");
+}
+
+#[test]
+fn a_decode_ends_with_its_output(rt: HostRuntime) {
+    let line = failing_line(&rt, rt.alloc(), OUTPUT_SCRIPT, "once");
     assert!(rt; line == 0, "line {line}");
 }
 
