@@ -90,8 +90,10 @@ fn is_passed(
     let Some(rows) = Columns::from_arrays(arrays) else {
         return Ok(false);
     };
+    let _count = rows.rows();
     let mut out = MemSink::new(alloc, 1000, Vec::new(alloc))?;
-    Ok(print_segment(alloc, none, b"f", 1, &rows, pattern, sieve, &mut out)?)
+    let fits = print_segment(alloc, none, b"f", 1, &rows, pattern, sieve, &mut out)?;
+    Ok(fits)
 }
 
 // How many rows are passed over, by what prints them: without a text a row that is not passed over cannot
@@ -127,10 +129,12 @@ fn are_printed(
     Ok(fits && out.bytes() == lines)
 }
 
-// Whether so many rows are passed over and these lines are printed, over books that are given.
+// Whether so many rows are passed over and these lines are printed, over books that are given, the second
+// ones without a text.
 fn holds(
     alloc: Global,
     books: &mut Books,
+    none: &Books,
     text: &[u8],
     over: u32,
     lines: &[u8],
@@ -142,14 +146,26 @@ fn holds(
     let Some(rows) = Columns::from_arrays(arrays) else {
         return Ok(false);
     };
+    Ok(
+        passed(alloc, none, &rows, &pattern, &sieve)? == over
+            && are_printed(alloc, &*books, &rows, &pattern, &sieve, lines)?,
+    )
+}
+
+fn holds_beside_none(
+    alloc: Global,
+    books: &mut Books,
+    text: &[u8],
+    over: u32,
+    lines: &[u8],
+) -> Result<bool, Fail> {
     let none = Books::new(alloc, 1, 100);
-    Ok(passed(alloc, &none, &rows, &pattern, &sieve)? == over
-        && are_printed(alloc, &*books, &rows, &pattern, &sieve, lines)?)
+    holds(alloc, books, &none, text, over, lines)
 }
 
 fn holds_over_new(alloc: Global, text: &[u8], over: u32, lines: &[u8]) -> Result<bool, Fail> {
     let mut books = Books::new(alloc, 1, 100);
-    holds(alloc, &mut books, text, over, lines)
+    holds_beside_none(alloc, &mut books, text, over, lines)
 }
 
 #[test]
