@@ -48,13 +48,13 @@ returns-in_err-agree-clause-refused g c =
     let p = err_from_is_err_and c.from_residual-in_err-agree.result c.from_residual-in_err-agree.ensures.1 in
     err_with (λ refusal. Merges (refused_by refusal) 0 d d second second_new) c.from_residual-in_err-agree.result p.0 _ p.1 p.2
     (agree_refuses (state_at 0 d c.args.end) held.opens (law _) c.args.holding.files held.names second second_new c.open_second.ensures.keeps
-    (shown kept_by c.in_ok-second_archive.second_archive) c.in_ok-second_archive.ensures.opened c.version.result (length c.as_slice.result.now)
-    (c.version.ensures ∙ ap (λ (k : Kept). k.version) c.names.ensures) (ap length (c.as_slice.ensures ∙ c.files.ensures)) c.in_err-agree.field-0.0 c.in_err-agree.ensures)
+    (shown kept_by c.in_ok-second_archive.second_archive) c.in_ok-second_archive.ensures.opened c.version-other.result (length c.as_slice.result.now)
+    (c.version-other.ensures ∙ ap (λ (k : Kept). k.version) c.names.ensures) (ap length (c.as_slice.ensures ∙ c.files.ensures)) c.in_err-agree.field-0.0 c.in_err-agree.ensures)
 
 pub returns-in_err-agree-clause-behind : goal.returns-in_err-agree-clause-behind
 returns-in_err-agree-clause-behind g c =
     let p = err_from_is_err_and c.from_residual-in_err-agree.result c.from_residual-in_err-agree.ensures.1 in
-    agree_behind c.args.disk.now c.args.end.header.version c.args.holding.files c.version.result (length c.as_slice.result.now) c.from_residual-in_err-agree.result p.0 _ p.1 p.2 c.in_err-agree.ensures
+    agree_behind c.args.disk.now c.args.end.header.version c.args.holding.files c.version-other.result (length c.as_slice.result.now) c.from_residual-in_err-agree.result p.0 _ p.1 p.2 c.in_err-agree.ensures
 
 pub returns-in_err-agree-clause-second : goal.returns-in_err-agree-clause-second
 returns-in_err-agree-clause-second g c =
@@ -67,7 +67,7 @@ returns-in_err-agree-clause-second g c =
 pub merge_opened-left-requires-clause-begin : goal.merge_opened-left-requires-clause-begin
 merge_opened-left-requires-clause-begin g c =
     record {
-      version_is = sym (c.version.ensures ∙ ap (λ (k : Kept). k.version) c.names.ensures) ∙ c.in_ok-agree.ensures.0;
+      version_is = sym (c.version-other.ensures ∙ ap (λ (k : Kept). k.version) c.names.ensures) ∙ c.in_ok-agree.ensures.0;
       opens = (c.requires.held _).opens;
       holds = (c.requires.held 0).names;
       few = omega (arith, c.in_ok-agree.ensures.1, ap length (c.as_slice.ensures ∙ c.files.ensures));
@@ -104,7 +104,7 @@ returns-clause-came g c =
     second second_new told (keeps_on second second_mid second_new c.open_second.ensures.keeps read.rests)
     c.args.holding.files (c.requires.held 0).names c.merge_opened-left.new.files.items c.merge_opened-left.result.refusal ends c.merge_opened-left.ensures.none
     (λ file is. subst (λ n. Rose n second_new.faults) c.in_ok-second_archive.ensures.steady (read.fault file is))
-    (sym (c.version.ensures ∙ ap version c.names.ensures) ∙ c.in_ok-agree.ensures.0)
+    (sym (c.version-other.ensures ∙ ap version c.names.ensures) ∙ c.in_ok-agree.ensures.0)
     (omega (arith, c.in_ok-agree.ensures.1, ap length (c.as_slice.ensures ∙ c.files.ensures)))
     m refl c.refusal_of.ensures (ap (λ place. name_at b.files place) c.place_of.ensures)))
 
@@ -132,7 +132,7 @@ returns-clause-behind g c =
     second second_new told (keeps_on second second_mid second_new c.open_second.ensures.keeps read.rests)
     c.args.holding.files (c.requires.held 0).names c.merge_opened-left.new.files.items c.merge_opened-left.result.refusal ends c.merge_opened-left.ensures.none
     (λ file is. subst (λ n. Rose n second_new.faults) c.in_ok-second_archive.ensures.steady (read.fault file is))
-    (sym (c.version.ensures ∙ ap version c.names.ensures) ∙ c.in_ok-agree.ensures.0)
+    (sym (c.version-other.ensures ∙ ap version c.names.ensures) ∙ c.in_ok-agree.ensures.0)
     (omega (arith, c.in_ok-agree.ensures.1, ap length (c.as_slice.ensures ∙ c.files.ensures)))
     m refl c.refusal_of.ensures (ap (λ place. name_at b.files place) c.place_of.ensures) in
     record { undamaged = comes.undamaged; alone = λ such none. back ∙ ap (λ (j : Journal _ _). j.disk.now) (comes.alone such none) }
