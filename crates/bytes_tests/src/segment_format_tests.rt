@@ -72,6 +72,13 @@ fn columns_of<L: Ledger>(
     read_columns(alloc, head, payload, &mut steps)
 }
 
+/// The same with a counter that is let go.
+fn rows_of(alloc: Global, head: &Head, payload: &[u8]) -> Result<Columns, FormatRefusal>
+    requires { IsHead head.now }
+{
+    columns_of::<Brand>(alloc, head, payload, Blank::new(1))
+}
+
 /// The head in front of a payload, and none where none stands there.
 fn head_of(alloc: Global, payload: &[u8]) -> Option<Head>
     ensures { IfSome result (λ h. IsHead h) }
@@ -87,7 +94,7 @@ fn head_of(alloc: Global, payload: &[u8]) -> Option<Head>
 /// How many rows and variables a payload is read as, and none where it is refused.
 fn sizes_of(alloc: Global, payload: &[u8]) -> Option<(u32, u32)> {
     let head = head_of(alloc, payload)?;
-    let columns = columns_of::<Brand>(alloc, &head, payload, Blank::new(1)).ok()?;
+    let columns = rows_of(alloc, &head, payload).ok()?;
     Some((columns.rows(), columns.variables()))
 }
 
@@ -243,7 +250,7 @@ fn is_told_apart(alloc: Global, head: &Head, at: usize) -> Result<bool, AllocErr
     if let Some(changed) = bytes.get_mut(at) {
         *changed ^= 1;
     }
-    let read = columns_of::<Brand>(alloc, head, bytes.as_slice(), Blank::new(1));
+    let read = rows_of(alloc, head, bytes.as_slice());
     Ok(read.err() == Some(FormatRefusal::Malformed))
 }
 
@@ -256,7 +263,7 @@ fn are_told_apart(alloc: Global, head: &Head) -> Result<bool, AllocError>
             return Ok(false);
         }
     }
-    Ok(columns_of::<Brand>(alloc, head, &TWO_ROWS, Blank::new(1)).is_ok())
+    Ok(rows_of(alloc, head, &TWO_ROWS).is_ok())
 }
 
 fn heads_are_told_apart(alloc: Global) -> Result<bool, AllocError> {
