@@ -15,6 +15,7 @@ use Rattle.row_codec.specs.Laws.{OneRow}
 use Rattle.row_codec.specs.Means.{AreCanonical, IsCanonical}
 use Rattle.row_codec.specs.Messages.{IsMessage}
 use Rattle.row_codec.specs.Numbers.{numbers_of_row}
+use Rattle.row_codec.specs.declared.namer.Which.{Which}
 use Rattle.row_codec.specs.declared.namer.Which.TheVariants.{Types as OfTypes, Words as OfWords}
 use Rattle.archive_meaning.specs.declared.TheConstants.{MAX_ROWS, MAX_MESSAGES}
 use Rattle.archive_meaning.specs.declared.entry.SegmentEntry.{SegmentEntry}
@@ -30,8 +31,8 @@ use Rattle.archive_machine.specs.declared.state.Hand.{Hand}
 use Rattle.archive_machine.specs.declared.event.Event.{Event}
 use Rattle.archive_machine.specs.declared.event.Event.TheVariants.{Name, Add, Save, Seal}
 use Rattle.archive_machine.specs.Machine.{CanName, IsKept, IsSaved, Leads, Runs, Steps, count_of, is_closed, nothing_yet, rows_of, sealed, with_rows}
-use Rattle.archive_machine.specs.Events.{adds, bare, bare_parts, ending, events_of, namings, seals}
-use Rattle.archive_machine.specs.Laws.{EventsLead, OneState}
+use Rattle.archive_machine.specs.Events.{adds, bare, bare_parts, ending, events_of, namings, seals, writes}
+use Rattle.archive_machine.specs.Laws.{EventsLead, LegalGrowth, OneState}
 use Rattle.archive_machine.specs.StepsEven.{IsEven}
 use Rattle.archive_machine.proofs.HandLemmas.{canonical_length, closed_joined, count_joined, other_rows, own_rows, piece_count}
 use Rattle.archive_machine.proofs.KeptLemmas.{closed_same, count_same, nothing_kept, step_keeps}
@@ -472,3 +473,68 @@ pub events_lead : EventsLead
 events_lead h held es run =
     let led = lead h nothing_held held es run nothing_yet nothing_even in
     (led.state, led.runs, led.journal, led.even.same_types, led.even.same_words)
+
+-- ---- what is added to a journal
+
+writes_joined : (xs ys : List Event) → writes (xs ++ ys) ≡ writes xs + writes ys
+writes_joined [] ys = omega arith
+writes_joined (Name worker book text ∷ xs) ys = writes_joined xs ys
+writes_joined (Add worker message ∷ xs) ys = writes_joined xs ys
+writes_joined (Save book ∷ xs) ys = omega (arith, writes_joined xs ys)
+writes_joined (Seal worker ∷ xs) ys = omega (arith, writes_joined xs ys)
+
+writes_names : (book : Which) (texts : List (List ℕ)) → writes (namings book texts) ≡ 0
+writes_names book [] = refl
+writes_names book (t ∷ texts) = writes_names book texts
+
+writes_adds : (worker : ℕ) (messages : List (List ℕ)) → writes (adds worker messages) ≡ 0
+writes_adds worker [] = refl
+writes_adds worker (m ∷ messages) = writes_adds worker messages
+
+writes_seals : (s : SegmentEntry) (last : Bool) (rows : List Row) → writes (seals s.file last rows) ≡ length (bare_parts s last rows)
+writes_seals s true (row ∷ rows) = refl
+writes_seals s true [] = refl
+writes_seals s false rows = refl
+
+-- one event writes each entry
+writes_each : (h : Header) (held more : Held) (es : List JournalEntry) → (run : Run h held es more) → writes (events_of h held more es run) ≡ length (bare es)
+writes_each h held more [] run = refl
+writes_each h held more (Files names ∷ es) run = writes_each h run.0 more es run.2
+writes_each h held more (Types first texts ∷ es) run =
+    omega (arith, writes_joined (namings OfTypes texts) (Save OfTypes ∷ events_of h run.0 more es run.2), writes_names OfTypes texts, writes_each h run.0 more es run.2)
+writes_each h held more (Words first texts ∷ es) run =
+    omega (arith, writes_joined (namings OfWords texts) (Save OfWords ∷ events_of h run.0 more es run.2), writes_names OfWords texts, writes_each h run.0 more es run.2)
+writes_each h held more (Segment s ∷ es) run =
+    omega (
+      arith,
+      writes_joined (adds s.file run.1.0) (seals s.file s.last s.rows ++ events_of h run.0 more es run.2),
+      writes_adds s.file run.1.0,
+      writes_joined (seals s.file s.last s.rows) (events_of h run.0 more es run.2),
+      writes_seals s s.last s.rows,
+      length-append (bare_parts s s.last s.rows) (bare es),
+      writes_each h run.0 more es run.2,
+    )
+
+-- a run over two lists is one over each
+run_split : (h : Header) (held more : Held) (es fs : List JournalEntry) → Run h held (es ++ fs) more → (mid : Held) × Run h held es mid × Run h mid fs more
+run_split h held more [] fs run = (held, refl, run)
+run_split h held more (e ∷ es) fs run =
+    let rest = run_split h run.0 more es fs run.2 in
+    (rest.0, (run.0, run.1, rest.1), rest.2)
+
+pub legal_growth : LegalGrowth
+legal_growth h before fresh legal =
+    let runs = run_split h nothing_held legal.held before fresh legal.run in
+    let led = lead h nothing_held runs.0 before runs.1 nothing_yet nothing_even in
+    let more = lead h runs.0 legal.held fresh runs.2 led.state led.even in
+    record {
+      first = events_of h nothing_held runs.0 before runs.1;
+      old = led.state;
+      reached = led.runs;
+      stood = led.journal;
+      events = events_of h runs.0 legal.held fresh runs.2;
+      new = more.state;
+      led = more.runs;
+      stands = more.journal ∙ ap (λ l. l ++ bare fresh) led.journal;
+      each = writes_each h runs.0 legal.held fresh runs.2;
+    }

@@ -31,6 +31,14 @@ bare (Types first texts ∷ es) = Types first texts ∷ bare es
 bare (Words first texts ∷ es) = Words first texts ∷ bare es
 bare (Segment s ∷ es) = bare_parts s s.last s.rows ++ bare es
 
+-- how many of the events write an entry to the journal
+abbrev pub writes : List Event → ℕ
+writes [] = 0
+writes (Name worker book text ∷ events) = writes events
+writes (Add worker message ∷ events) = writes events
+writes (Save book ∷ events) = 1 + writes events
+writes (Seal worker ∷ events) = 1 + writes events
+
 -- a worker names texts in order
 abbrev pub namings : Which → List (List ℕ) → List Event
 namings book texts = map (λ text. Name 0 book text) texts

@@ -1,5 +1,5 @@
 //! What holds of every list of events: each law is the contract of a function that does nothing.
-ghost use Rattle.archive_machine.specs.Laws.{AlwaysKept, EventsLead, OneState, StepsGrow};
+ghost use Rattle.archive_machine.specs.Laws.{AlwaysKept, EventsLead, LegalGrowth, OneState, StepsGrow};
 
 use row_codec::one_row;
 
@@ -21,4 +21,10 @@ pub fn one_state()
 /// the texts that it saves.
 pub fn events_lead()
     ensures { EventsLead }
+{}
+
+/// Whatever is legally added to a journal is added by events: they lead from a state of the journal of
+/// before to one with the new entries behind it, and one event writes each.
+pub fn legal_growth()
+    ensures { LegalGrowth }
 {}
