@@ -1,0 +1,23 @@
+-- What is added to a journal, as events of the machine of its archive.
+use Rattle.std.specs.Prelude.{ℕ, List, Option, is_some}
+use Rattle.log_seams.specs.declared.disk.Disk.{Ghosts as DiskGhosts}
+use Rattle.disk_journal.specs.declared.journal.Journal.{Journal}
+use Rattle.disk_journal.specs.Journal.{state_of}
+use Rattle.archive_meaning.specs.declared.entry.JournalEntry.{JournalEntry}
+use Rattle.archive_machine.specs.Laws.{GrowsByEvents}
+use Rattle.disk_seal.specs.Told.{IfTold}
+use Rattle.ingest_workers.specs.declared.job.Job.{Job}
+use Rattle.ingest_workers.specs.declared.worker.Plan.{Plan}
+use Rattle.ingest_workers.specs.Ingested.{HasIngested, told_entries}
+
+module _ {D : Type 0} {d : DiskGhosts D} where
+  -- where the journal is told, these entries are added to it by events
+  abbrev pub AddedByEvents : Journal D d → List JournalEntry → Type 0
+  AddedByEvents before fresh =
+      IfTold (is_some (state_of before).disk.seen) (GrowsByEvents before.header (told_entries (state_of before)) fresh)
+
+  -- the entries that an ingest adds are
+  abbrev pub IngestsByEvents : {S : Type 0} → (S → Option (List ℕ)) → Plan → List (Job S) → List (Job S) → Journal D d → Journal D d
+      → Type 0
+  IngestsByEvents left plan js js' before after =
+      (i : HasIngested left plan js js' before after) → AddedByEvents before i.stored.fresh
