@@ -7,8 +7,7 @@ use Rattle.archive_meaning.specs.declared.entry.JournalEntry.{JournalEntry}
 use Rattle.archive_machine.specs.Laws.{GrowsByEvents}
 use Rattle.disk_seal.specs.Told.{IfTold}
 use Rattle.ingest_workers.specs.declared.job.Job.{Job}
-use Rattle.ingest_workers.specs.declared.worker.Plan.{Plan}
-use Rattle.ingest_workers.specs.Ingested.{HasIngested, told_entries}
+use Rattle.ingest_workers.specs.Ingested.{HasIngested, plan_of, told_entries}
 
 module _ {D : Type 0} {d : DiskGhosts D} where
   -- where the journal is told, these entries are added to it by events
@@ -16,8 +15,8 @@ module _ {D : Type 0} {d : DiskGhosts D} where
   AddedByEvents before fresh =
       IfTold (is_some (state_of before).disk.seen) (GrowsByEvents before.header (told_entries (state_of before)) fresh)
 
-  -- the entries that an ingest adds are
-  abbrev pub IngestsByEvents : {S : Type 0} → (S → Option (List ℕ)) → Plan → List (Job S) → List (Job S) → Journal D d → Journal D d
+  -- so are those that an ingest adds, with segments of at most so many rows
+  abbrev pub IngestsByEvents : {S : Type 0} → (S → Option (List ℕ)) → ℕ → List (Job S) → List (Job S) → Journal D d → Journal D d
       → Type 0
-  IngestsByEvents left plan js js' before after =
-      (i : HasIngested left plan js js' before after) → AddedByEvents before i.stored.fresh
+  IngestsByEvents left rows js js' before after =
+      (i : HasIngested left (plan_of rows before) js js' before after) → AddedByEvents before i.stored.fresh

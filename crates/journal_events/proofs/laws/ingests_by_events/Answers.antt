@@ -1,6 +1,5 @@
-use Rattle.ingest_workers.specs.Ingested.{plan_of}
 use Rattle.journal_events.proofs.EventsLemmas.{ingests_by_events}
 use Rattle.journal_events.proofs.laws.ingests_by_events.Goals as goal
 
 pub returns : goal.returns
-returns g c = ingests_by_events g.S.Source.left (plan_of c.args.rows c.args.before.now) c.args.old.now c.args.new.now c.args.before.now c.args.after.now
+returns g c = ingests_by_events g.S.Source.left c.args.rows c.args.old.now c.args.new.now c.args.before.now c.args.after.now
