@@ -5,8 +5,8 @@ use disk_journal::Journal;
 use ingest_workers::Job;
 use log_seams::{Disk, Source};
 
-/// What an ingest adds to a journal is added by events of the machine, and one event writes each entry.
-/// They lead from a state of the journal of before, which events led to.
+/// What an ingest adds to a journal is added by events of the machine, and one event writes each
+/// entry. They lead from a state of the journal of before, which events led to.
 pub fn ingests_by_events<'d, D: Disk, S: Source>(
     rows: u32,
     old: &[Job<S>],
