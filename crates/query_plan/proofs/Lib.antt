@@ -18,3 +18,4 @@ mod TokenLemmas
 mod ChunkLemmas
 mod SlotLemmas
 mod StandingLemmas
+mod ReachLemmas

@@ -1,10 +1,10 @@
 -- A text that stands in a body may stand in the body's log type.
-use Rattle.std.proofs.Common.{◌≡◌, ℕ, cond, List, [], ◌∷◌, ◌++◌, map, refl, sym, ◌∙◌, ap, subst, inl, inr}
+use Rattle.std.proofs.Common.{◌≡◌, ℕ, zero, suc, ◌≤◌, cond, List, [], ◌∷◌, ◌++◌, length, drop, map, refl, sym, ◌∙◌, ap, subst, arith, inl, inr}
 use Rattle.std.specs.Prelude.{◌↔◌, ◌≢◌, IsTrue, Option, None}
 use Rattle.token_rules.specs.Tokens.{is_token_byte, IsDelimiter}
 use Rattle.logtype_text.specs.declared.symbols.Kind.{Kind}
 use Rattle.logtype_text.specs.declared.symbols.Symbol.{Symbol}
-use Rattle.logtype_text.specs.declared.symbols.Symbol.TheVariants.{Slot}
+use Rattle.logtype_text.specs.declared.symbols.Symbol.TheVariants.{Byte, Slot}
 use Rattle.logtype_text.specs.Cut.{PartsAreCut, plains}
 use Rattle.logtype_text.specs.Parts.{Part, Constant, symbol_of}
 use Rattle.logtype_text.specs.TypeText.{text_of_symbol, type_text}
@@ -15,6 +15,7 @@ use Rattle.query_plan.specs.Needs.{around}
 use Rattle.query_plan.specs.Pieces.{IsInner, IsSomeInner, bytes}
 use Rattle.query_plan.specs.Readings.{Breaks}
 use Rattle.query_plan.specs.Slots.{ChunksMayStand, FrontsBegin, MayBegin, MayStand, TextsStand, after_token}
+use Rattle.query_plan.specs.StepsStanding.{IsPassed}
 use Rattle.query_plan.proofs.MatchLemmas.{Steps, drops, takes, steps}
 use Rattle.query_plan.proofs.CompleteLemmas.{Symbols, none, delimiter, constant, variable}
 use Rattle.query_plan.proofs.ChunkLemmas.{chunks_brought, front_run}
@@ -154,3 +155,32 @@ left_then P Q R rest symbol after cut step left =
 pub stands_here : (w : List ℕ) (symbols : List Symbol) → MayBegin w symbols → MayStand w symbols
 stands_here w [] m = m
 stands_here w (s ∷ symbols) m = inl m
+
+-- a text that may not begin with the first symbol stands in those behind it
+pub refused_then : (P : Type 0) (w rest : List ℕ) (symbol : Symbol) (after : List ℕ) → rest ≡ text_of_symbol symbol ++ after
+    → ((symbols : List Symbol) → rest ≡ type_text symbols → ¬ MayBegin w symbols) → AreLeft P (MayStand w) rest → AreLeft P (MayStand w) after
+refused_then P w rest symbol after cut never left =
+    let l = one_left rest symbol after cut left.0 left.1 in
+    let here = subst (λ x. P ↔ MayStand w x) l.1 left.2 in
+    let not_here = subst (λ x. ¬ MayBegin w x) l.1 (never left.0 left.1) in
+    (l.0, l.2, (λ p. elim (here.0 p) [ inl m ↦ absurd (not_here m) | inr m ↦ m ], λ m. here.1 (inr m)))
+
+-- a constant byte that is not the text's first
+other_byte : (first b : ℕ) (w : List ℕ) → b ≢ first → (others : List Symbol) → MayStand (first ∷ w) (Byte b ∷ others) ↔ MayStand (first ∷ w) others
+other_byte first b w other others = (λ m. elim m [ inl here ↦ absurd (other (sym here.0)) | inr there ↦ there ], λ m. inr m)
+
+-- bytes that are passed over
+pub passed_then : (P : Type 0) (first : ℕ) (w rest : List ℕ) (count : ℕ) → count ≤ length rest → IsPassed first rest count
+    → AreLeft P (MayStand (first ∷ w)) rest → AreLeft P (MayStand (first ∷ w)) (drop count rest)
+passed_then P first w rest zero within passed left = left
+passed_then P first w [] (suc count) within passed left = absurd (omega (arith, within))
+passed_then P first w (b ∷ rest) (suc count) within passed left =
+    let here = passed 0 (omega arith) in
+    let cut : b ∷ rest ≡ text_of_symbol (Byte b) ++ rest = ap (λ t. cond t (0x5C ∷ b ∷ []) (b ∷ []) ++ rest) (sym here.0) in
+    passed_then P first w rest count (omega (arith, within)) (λ k below. passed (suc k) (omega (arith, below)))
+    (left_then P (MayStand (first ∷ w)) (MayStand (first ∷ w)) (b ∷ rest) (Byte b) rest cut (other_byte first b w here.1) left)
+
+-- the empty text stands anywhere
+pub empty_stands : (w : List ℕ) → length w ≡ 0 → (symbols : List Symbol) → MayStand w symbols
+empty_stands [] empty symbols = stands_here [] symbols tt
+empty_stands (b ∷ w) empty symbols = absurd (omega (arith, empty))

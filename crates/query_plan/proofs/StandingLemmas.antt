@@ -1,12 +1,13 @@
 -- A text may stand only where one of its delimiters does, which the text of a log type holds as it is.
-use Rattle.std.proofs.Common.{◌≡◌, ℕ, zero, suc, ◌+◌, ◌-◌, ◌<◌, ◌≤◌, Bool, true, false, cond, Option, None, Some, List, [], ◌∷◌, ◌++◌, length, take, drop, refl, sym, ◌∙◌, ap, subst, arith, inl, inr, take-append-drop}
-use Rattle.std.specs.Prelude.{IsFalse, IfSome, leb, slice_index, slice_range}
+use Rattle.std.proofs.Common.{◌≡◌, ℕ, zero, suc, ◌+◌, ◌-◌, ◌<◌, ◌≤◌, Bool, true, false, cond, Option, None, Some, List, [], ◌∷◌, ◌++◌, length, take, drop, refl, sym, ◌∙◌, ap, subst, arith, inl, inr, take-append-drop, length-take-le}
+use Rattle.std.specs.Prelude.{◌↔◌, All, IsTrue, IsFalse, IfSome, unwrap_or, leb, slice_index, slice_range}
 use Rattle.std.proofs.Math.Logic.{⊎_elim}
 use Rattle.std.proofs.Math.Seq.{drop-append_seam}
 use Rattle.std.proofs.lemmas.Bool.{cases_Bool, eq-eqb, eqb-true}
 use Rattle.std.proofs.lemmas.Bool.Decides.{leb_tells}
 use Rattle.std.proofs.lemmas.Grind.{flat_map-append}
-use Rattle.std.proofs.lemmas.List.{drop_more, get_or-drop, length-append, length-drop}
+use Rattle.std.proofs.lemmas.List.{get_or-drop, get_or-take, length-append, length-drop}
+use Rattle.std.proofs.lemmas.List.Elements.{All-get_or}
 use Rattle.std.proofs.lemmas.Slice.{between_to_end}
 use Rattle.memchr.specs.Find.{IsFirstByte, Nowhere, Passes, is_byte}
 use Rattle.token_rules.specs.Tokens.{is_token_byte, IsDelimiter}
@@ -15,11 +16,11 @@ use Rattle.logtype_text.specs.declared.symbols.Symbol.TheVariants.{Byte, Slot}
 use Rattle.logtype_text.specs.TypeText.{is_escaped, text_of_symbol, type_text}
 use Rattle.logtype_text.proofs.TextLemmas.{forms}
 use Rattle.query_plan.specs.Slots.{MayBegin, MayStand, after_token}
-use Rattle.query_plan.specs.StepsStanding.{BeginsAt, IsMissed, IsPlainDelimiter, StandsAt}
+use Rattle.query_plan.specs.StepsStanding.{BeginsAt, IsMissed, IsPassed, IsPlainDelimiter, StandsAt}
 use Rattle.query_plan.proofs.SlotLemmas.{stands_here, token_off, token_over}
 
 -- a text behind so many bytes, as the code has it
-abbrev ahead : List ℕ → ℕ → List ℕ
+abbrev pub ahead : List ℕ → ℕ → List ℕ
 ahead log_type from = slice_range log_type from (length log_type)
 
 pub ahead_is : (log_type : List ℕ) (from : ℕ) → ahead log_type from ≡ drop from log_type
@@ -77,14 +78,14 @@ stands d back is front (s ∷ symbols) (inr m) = later d back s symbols (stands 
 
 -- ---- and stand so in the text of the log type
 
-plain_text : (d : ℕ) → IsFalse (is_escaped d) → text_of_symbol (Byte d) ≡ d ∷ []
+pub plain_text : (d : ℕ) → IsFalse (is_escaped d) → text_of_symbol (Byte d) ≡ d ∷ []
 plain_text d plain = ap (λ t. cond t (0x5C ∷ d ∷ []) (d ∷ [])) plain
 
 cut_text : (d : ℕ) (before after : List Symbol) → IsFalse (is_escaped d) → type_text (before ++ (Byte d ∷ after)) ≡ type_text before ++ (d ∷ type_text after)
 cut_text d before after plain =
     flat_map-append text_of_symbol before (Byte d ∷ after) ∙ ap (λ x. type_text before ++ (x ++ type_text after)) (plain_text d plain)
 
-seam : (d : ℕ) (x y : List ℕ) → slice_index (x ++ (d ∷ y)) (length x) ≡ d
+pub seam : (d : ℕ) (x y : List ℕ) → slice_index (x ++ (d ∷ y)) (length x) ≡ d
 seam d [] y = refl
 seam d (b ∷ x) y = seam d x y
 
@@ -99,18 +100,6 @@ not_held d back log_type plain missed symbols typed h =
     let rest : drop (length x) log_type ≡ type_text (Byte d ∷ h.after) =
     ap (λ l. drop (length x) l) cut ∙ drop-append_seam x (d ∷ y) ∙ sym (ap (λ b. b ++ y) (plain_text d plain)) in
     missed (length x) (inside, here) (Byte d ∷ h.after) rest h.begins
-
--- the text stands nowhere, if what is left from one of its delimiters on begins nowhere
-pub nowhere : (text log_type : List ℕ) (at : ℕ) → at < length text → IsPlainDelimiter (slice_index text at)
-    → ((k : ℕ) → IsMissed (slice_index text at) (ahead text at) log_type k)
-    → (symbols : List Symbol) → log_type ≡ type_text symbols → ¬ MayStand text symbols
-nowhere text log_type at inside is missed symbols typed m =
-    let d = slice_index text at in
-    let back = drop (at + 1) text in
-    let rest : drop at text ≡ d ∷ back = drop_more text at 0 inside in
-    let cut : text ≡ take at text ++ (d ∷ back) = sym (take-append-drop at text) ∙ ap (λ x. take at text ++ x) rest in
-    not_held d back log_type is.1 (λ k. subst (λ w. IsMissed d w log_type k) (ahead_is text at ∙ rest) (missed k)) symbols typed
-    (stands d back is.0 (take at text) symbols (subst (λ w. MayStand w symbols) cut m))
 
 -- ---- where the byte stands in the text of a log type, symbols begin
 
@@ -155,10 +144,14 @@ found_at d log_type from k within found =
     let inside : from + k < length log_type = omega (arith, within, found.0.high, length_ahead log_type from) in
     (inside, sym (ahead_at log_type from k) ∙ eqb-true (slice_index (ahead log_type from) k) d found.1)
 
--- the byte is at no place up to the next one that has it
-missed_ahead : (d : ℕ) (w log_type : List ℕ) (from to : ℕ) → ((at : ℕ) → at < from → IsMissed d w log_type at)
-    → Nowhere (Passes (is_byte d) (ahead log_type from)) 0 to → (at : ℕ) → at < from + to → IsMissed d w log_type at
-missed_ahead d w log_type from to before none at below here =
+-- something is so wherever the byte stands
+abbrev Misses : ℕ → (ℕ → Type 0) → List ℕ → ℕ → Type 0
+Misses d Q log_type at = StandsAt d log_type at → Q at
+
+-- it is so up to the next place with the byte
+missed_ahead : (d : ℕ) (Q : ℕ → Type 0) (log_type : List ℕ) (from to : ℕ) → ((at : ℕ) → at < from → Misses d Q log_type at)
+    → Nowhere (Passes (is_byte d) (ahead log_type from)) 0 to → (at : ℕ) → at < from + to → Misses d Q log_type at
+missed_ahead d Q log_type from to before none at below here =
     ⊎_elim
     (λ (h : (leb from at ≡ true) × (from ≤ at)).
     let place : from + (at - from) ≡ at = omega (arith, h.1) in
@@ -168,24 +161,54 @@ missed_ahead d w log_type from to before none at below here =
     (λ (h : (leb from at ≡ false) × (at < from)). before at h.1 here)
     (leb_tells from at)
 
--- nor does the text begin at that place
-pub missed_more : (d : ℕ) (w log_type : List ℕ) (from k : ℕ) → from ≤ length log_type → ((at : ℕ) → at < from → IsMissed d w log_type at)
-    → IsFirstByte (is_byte d) (ahead log_type from) (Some k) → IsMissed d w log_type (from + k) → (at : ℕ) → at < from + k + 1 → IsMissed d w log_type at
-missed_more d w log_type from k within before found here at below =
+-- and up to behind that one, if it is so there
+pub missed_more : (d : ℕ) (Q : ℕ → Type 0) (log_type : List ℕ) (from k : ℕ) → from ≤ length log_type → ((at : ℕ) → at < from → Misses d Q log_type at)
+    → IsFirstByte (is_byte d) (ahead log_type from) (Some k) → Misses d Q log_type (from + k) → (at : ℕ) → at < from + k + 1 → Misses d Q log_type at
+missed_more d Q log_type from k within before found here at below =
     ⊎_elim
     (λ (h : (leb (from + k) at ≡ true) × (from + k ≤ at)).
     let place : from + k ≡ at = omega (arith, h.1, below) in
-    subst (λ n. IsMissed d w log_type n) place here)
-    (λ (h : (leb (from + k) at ≡ false) × (at < from + k)). missed_ahead d w log_type from k before found.0.before at h.1)
+    subst (λ n. Misses d Q log_type n) place here)
+    (λ (h : (leb (from + k) at ≡ false) × (at < from + k)). missed_ahead d Q log_type from k before found.0.before at h.1)
     (leb_tells (from + k) at)
 
--- it begins nowhere, if there is no further one
-pub missed_rest : (d : ℕ) (w log_type : List ℕ) (from : ℕ) → from ≤ length log_type → ((at : ℕ) → at < from → IsMissed d w log_type at)
-    → IsFirstByte (is_byte d) (ahead log_type from) None → (at : ℕ) → IsMissed d w log_type at
-missed_rest d w log_type from within before none at here =
+-- and everywhere, if there is no further one
+pub missed_rest : (d : ℕ) (Q : ℕ → Type 0) (log_type : List ℕ) (from : ℕ) → from ≤ length log_type → ((at : ℕ) → at < from → Misses d Q log_type at)
+    → IsFirstByte (is_byte d) (ahead log_type from) None → (at : ℕ) → Misses d Q log_type at
+missed_rest d Q log_type from within before none at here =
     let size = length (ahead log_type from) in
     let below : at < from + size = omega (arith, within, here.0, length_ahead log_type from) in
-    missed_ahead d w log_type from size before none at below here
+    missed_ahead d Q log_type from size before none at below here
+
+-- ---- what is passed over
+
+-- so many bytes at the front of a list, and so many of these
+abbrev front_of : List ℕ → ℕ → ℕ → List ℕ
+front_of list size plain = take plain (take size list)
+
+front_at : (list : List ℕ) (size plain k : ℕ) → size ≤ length list → plain ≤ length (take size list) → k < plain → slice_index (front_of list size plain) k ≡ slice_index list k
+front_at list size plain k inside within below =
+    let near : k < size = omega (arith, below, within, length-take-le size list inside) in
+    get_or-take plain (take size list) k 0 below ∙ get_or-take size list k 0 near
+
+passed_up_to : (first : ℕ) (list : List ℕ) (size plain to : ℕ) → size ≤ length list → plain ≤ length (take size list)
+    → All (λ b. is_escaped b ≡ false) (front_of list size plain) → to ≤ length (front_of list size plain)
+    → Nowhere (Passes (is_byte first) (front_of list size plain)) 0 to → IsPassed first list to
+passed_up_to first list size plain to inside within all near none k below =
+    let front = front_of list size plain in
+    let long : length front ≡ plain = length-take-le plain (take size list) within in
+    let same : slice_index front k ≡ slice_index list k = front_at list size plain k inside within (omega (arith, below, near, long)) in (
+      ap is_escaped (sym same) ∙ All-get_or (λ b. is_escaped b ≡ false) front k 0 (omega (arith, below, near)) all,
+      λ is. none k (omega arith) below (eq-eqb (slice_index front k) first (same ∙ is)),
+    )
+
+pub next_passed : (first : ℕ) (list : List ℕ) (size plain : ℕ) → size ≤ length list → plain ≤ length (take size list)
+    → All (λ b. is_escaped b ≡ false) (front_of list size plain) → (r : Option ℕ) → IsFirstByte (is_byte first) (front_of list size plain) r
+    → IsPassed first list (unwrap_or r (length (front_of list size plain)))
+next_passed first list size plain inside within all None none =
+    passed_up_to first list size plain (length (front_of list size plain)) inside within all (omega arith) none
+next_passed first list size plain inside within all (Some at) found =
+    passed_up_to first list size plain at inside within all (omega (arith, found.0.high)) found.0.before
 
 -- a text may not begin where the code says so
 pub refused : (answer : Bool) (P : Type 0) → answer ≡ false → (P → answer ≡ true) → ¬ P
@@ -204,10 +227,13 @@ space_at text (Some at) found =
 
 -- ---- both together
 
--- the text may stand where it may begin, if that is at its first byte
-pub stands_there : (text log_type : List ℕ) (at : ℕ) → at ≡ 0 → IsPlainDelimiter (slice_index text at)
-    → (k : ℕ) × StandsAt (slice_index text at) log_type k × BeginsAt (ahead text at) log_type k
-    → (symbols : List Symbol) → log_type ≡ type_text symbols → MayStand text symbols
-stands_there text log_type at first is found symbols typed =
-    let whole : ahead text at ≡ text = ahead_is text at ∙ ap (λ n. drop n text) first in
-    stands_from (slice_index text at) text is.1 symbols log_type found.0 typed found.1 (subst (λ w. BeginsAt w log_type found.0) whole found.2)
+-- the text may stand exactly where a search for its first byte finds that it may begin
+pub stands_there : (d : ℕ) (text log_type behind : List ℕ) → text ≡ d ∷ behind → IsPlainDelimiter d → (answer : Bool)
+    → (IsTrue answer → (k : ℕ) × StandsAt d log_type k × BeginsAt text log_type k) → (IsFalse answer → (k : ℕ) → IsMissed d text log_type k)
+    → (symbols : List Symbol) → log_type ≡ type_text symbols → IsTrue answer ↔ MayStand text symbols
+stands_there d text log_type behind cut is true found missed symbols typed =
+    let f = found refl in (λ yes. stands_from d text is.1 symbols log_type f.0 typed f.1 f.2, λ m. refl)
+stands_there d text log_type behind cut is false found missed symbols typed =
+    let never : ¬ Holds d behind symbols =
+    not_held d behind log_type is.1 (λ k. subst (λ w. IsMissed d w log_type k) cut (missed refl k)) symbols typed in
+    (λ (yes : false ≡ true). cc, λ m. absurd (never (stands d behind is.0 [] symbols (subst (λ w. MayStand w symbols) cut m))))
