@@ -11,7 +11,7 @@ use Rattle.logtype_text.specs.declared.symbols.Symbol.{Symbol}
 use Rattle.logtype_text.specs.declared.symbols.Symbol.TheVariants.{Byte, Slot}
 use Rattle.logtype_text.specs.TypeText.{is_escaped, text_of_symbol, type_text}
 use Rattle.query_plan.specs.Slots.{MayBegin, MayStand, after_token}
-use Rattle.query_plan.specs.StepsStanding.{IsMissedBehind, IsPlainDelimiter, IsReached, IsRefused, StandsAt}
+use Rattle.query_plan.specs.StepsStanding.{IsMissedBehind, IsPlainDelimiter, IsReached}
 use Rattle.query_plan.proofs.SlotLemmas.{token_off, token_over}
 use Rattle.query_plan.proofs.StandingLemmas.{ahead, ahead_is, plain_text, seam}
 

@@ -1,5 +1,4 @@
-use Rattle.std.proofs.Common.{true, false, arith, inl, inr}
-use Rattle.std.specs.Prelude.{IsTrue}
+use Rattle.std.proofs.Common.{arith, inl, inr}
 use Rattle.std.proofs.lemmas.Bool.{cases_Bool}
 use Rattle.query_plan.proofs.ReachLemmas.{nowhere}
 use Rattle.query_plan.proofs.slots.has_delimiter.Goals as goal
