@@ -2,6 +2,8 @@
 use Rattle.std.proofs.Common.{◌≡◌, ℕ, List, [], ◌∷◌, ◌++◌, append_assoc, length, map, refl, sym, ◌∙◌, ap, ap₂, subst, arith, false, ◌<◌}
 use Rattle.std.specs.Prelude.{ℤ, Some, slice_get, slice_index_or}
 use Rattle.std.proofs.lemmas.List.{append-nil}
+use Rattle.std.proofs.lemmas.List.Elements.{Contains-append_left, Contains-append_right, Contains-get_or}
+use Rattle.std.specs.List.{Contains}
 use Rattle.std.proofs.lemmas.Option.{get_or_from_slice_get}
 use mathlib.Core.List.{IsPrefix}
 use Rattle.logtype_text.specs.declared.symbols.Kind.{Kind}
@@ -15,7 +17,7 @@ use Rattle.row_codec.specs.Numbers.{kinds_from, word_numbers}
 use Rattle.row_codec.proofs.EncoderLemmas.{kinds_are, slots}
 use Rattle.row_rename.specs.Causes.{HasFairText, MayRename, MayRenameWords}
 use Rattle.row_rename.specs.Laws.{RenamedMeansSame}
-use Rattle.row_rename.specs.Renamed.{AreRenamed, IsRenamed, IsSlot}
+use Rattle.row_rename.specs.Renamed.{AreRenamed, IsRenamed, IsSlot, IsTextAmong, IsTextAt}
 use Rattle.row_rename.specs.StepsPut.{HasPut, PutsSlot}
 use Rattle.row_codec.specs.Naming.{Known}
 use Rattle.row_rename.specs.declared.log_types.LogType.{LogType}
@@ -80,6 +82,7 @@ put_none old new kinds words = record {
   leads = λ more tail front are. are;
   numbers = λ tail. refl;
   may = λ may. may;
+  within = λ number there. there;
 }
 
 numbers_first : (kind : Kind) (rest : List Kind) (renamed : ℕ) (tail : List ℕ) → word_numbers (kind ∷ rest) (renamed ∷ tail) ≡ word_numbers (kind ∷ []) (renamed ∷ []) ++ word_numbers rest tail
@@ -91,6 +94,25 @@ may_rest : (old : List (List ℕ)) (kind : Kind) (kinds : List Kind) (word : ℕ
 may_rest old Whole kinds word words may = may
 may_rest old Decimal kinds word words may = may
 may_rest old Word kinds word words may = may.1
+
+number_first : (kind : Kind) (rest : List Kind) (word : ℕ) (left : List ℕ) (number : ℕ) → Contains (word_numbers (kind ∷ []) (word ∷ [])) number → Contains (word_numbers (kind ∷ rest) (word ∷ left)) number
+number_first kind rest word left number there = subst (λ l. Contains l number) (sym (numbers_first kind rest word left)) (Contains-append_left (word_numbers (kind ∷ []) (word ∷ [])) (word_numbers rest left) number there)
+
+number_rest : (kind : Kind) (rest : List Kind) (word : ℕ) (left : List ℕ) (number : ℕ) → Contains (word_numbers rest left) number → Contains (word_numbers (kind ∷ rest) (word ∷ left)) number
+number_rest kind rest word left number there = subst (λ l. Contains l number) (sym (numbers_first kind rest word left)) (Contains-append_right (word_numbers (kind ∷ []) (word ∷ [])) (word_numbers rest left) number there)
+
+-- the text of a word in a slot for words
+pub slot_text : (texts : List (List ℕ)) (kind : Kind) (word : ℕ) → kind ≡ Word → (text : List ℕ) → IsTextAt texts word text → IsTextAmong texts (word_numbers (kind ∷ []) (word ∷ [])) text
+slot_text texts kind word is text at = subst (λ k. IsTextAmong texts (word_numbers (k ∷ []) (word ∷ [])) text) (sym is) (word, Contains-get_or (word ∷ []) 0 word (omega arith), at)
+
+-- the next slot and its word
+pub put_at : (old new : List (List ℕ)) (kinds rest rest_is : List Kind) (words left left_is out done : List ℕ) → rest ≡ rest_is → left ≡ left_is → HasPut old new kinds rest words left out done → HasPut old new kinds rest_is words left_is out done
+put_at old new kinds rest rest_is words left left_is out done at first has = subst (λ l. HasPut old new kinds rest_is words l out done) first (subst (λ k. HasPut old new kinds k words left out done) at has)
+
+-- a text of the next slot is one of all slots
+pub text_within : (old new : List (List ℕ)) (kinds rest : List Kind) (kind : Kind) (words left : List ℕ) (word : ℕ) (out done : List ℕ) → HasPut old new kinds (kind ∷ rest) words (word ∷ left) out done
+    → (text : List ℕ) → IsTextAmong old (word_numbers (kind ∷ []) (word ∷ [])) text → IsTextAmong old (word_numbers kinds words) text
+text_within old new kinds rest kind words left word out done has text (number, there, at) = (number, has.within number (number_first kind rest word left number there), at)
 
 behind : (out out_new : List ℕ) (renamed : ℕ) (tail : List ℕ) → out_new ≡ out ++ renamed ∷ [] → out ++ renamed ∷ tail ≡ out_new ++ tail
 behind out out_new renamed tail added = sym (append_assoc out (renamed ∷ []) tail) ∙ ap (λ l. l ++ tail) (sym added)
@@ -108,6 +130,7 @@ put_more old new more kinds rest kind words left word out out_new done used used
       ap (λ l. word_numbers kinds l) (sym (behind out out_new put.renamed tail put.added)) ∙ has.numbers (put.renamed ∷ tail)
       ∙ ap (λ l. done ++ l) (numbers_first kind rest put.renamed tail) ∙ sym (append_assoc done (word_numbers (kind ∷ []) (put.renamed ∷ [])) (word_numbers rest tail));
   may = λ may. may_rest old kind rest word left (has.may may);
+  within = λ number there. has.within number (number_rest kind rest word left number there);
 }
 
 -- all slots have their words
@@ -152,6 +175,13 @@ row_renamed types words new_words known more row renamed l kinds stays is same p
   is = ap (λ (k : Known). slice_get k.texts renamed.log_type) stays ∙ ap (λ n. slice_get known.texts n) number ∙ is.is;
   words_are = subst (λ (k : List Kind). AreRenamed words new_words k row.words renamed.words) (same ∙ is.kinds) are;
 }
+
+-- the numbers of its words are those in slots of these kinds
+pub numbers_are : (types new : List (List ℕ)) (number : ℕ) (l : LogType) (kinds : List Kind) (words : List ℕ) → (is : IsLogType types new number l) → kinds ≡ l.kinds.items
+    → word_numbers kinds words ≡ word_numbers (kinds_from false (slice_index_or types number [])) words
+numbers_are types new number l kinds words is same =
+    let here : slice_index_or types number [] ≡ is.text = get_or_from_slice_get types number is.text [] is.was in
+    ap (λ (k : List Kind). word_numbers k words) (same ∙ is.kinds ∙ ap (λ (t : List ℕ). kinds_from false t) (sym here))
 
 pub row_numbers : (types : List (List ℕ)) (known more : Known) (number : ℕ) (l : LogType) (kinds : List Kind) (words : List ℕ)
     → more ≡ known → (is : IsLogType types known.texts number l) → kinds ≡ l.kinds.items

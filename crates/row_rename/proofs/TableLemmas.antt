@@ -11,13 +11,14 @@ use Rattle.logtype_text.specs.Encoded.{texts_at}
 use Rattle.row_codec.specs.declared.namer.NameRefusal.{NameRefusal}
 use Rattle.row_codec.specs.declared.namer.NameRefusal.TheVariants.{Full, OutOfMemory}
 use Rattle.row_codec.specs.declared.namer.Which.{Which}
+use Rattle.row_codec.specs.declared.namer.Which.TheVariants.{Types, Words}
 use Rattle.row_codec.specs.Naming.{HasGrown, Known, MetLimit}
 use Rattle.row_codec.proofs.GrowthLemmas.{grows_self, grows_then}
 use Rattle.row_codec.proofs.MeansLemmas.{prefix_keeps}
 use Rattle.row_rename.specs.declared.log_types.LogType.{LogType}
 use Rattle.row_rename.specs.declared.refusal.RenameRefusal.TheVariants.{Full as RenameFull}
 use Rattle.row_rename.specs.Causes.{IsFullOf, refused_by}
-use Rattle.row_rename.specs.Renamed.{HaveOneText}
+use Rattle.row_rename.specs.Renamed.{HaveOneText, IsTextAt}
 use Rattle.row_rename.specs.declared.tables.Tables.{Tables}
 use Rattle.row_rename.specs.Tables.{AreLogTypes, HasNamedBoth, HasNamedSome, IsLogType, IsTable}
 
@@ -57,15 +58,18 @@ none_more old new named are = λ number l at. are number l (pushed_none named nu
 
 -- ---- what is named
 
--- a text of the old ones was named
-pub grown_text : (old : List (List ℕ)) (text : List ℕ) (known more : Known) → Contains old text → HasGrown (λ t. t ≡ text) known more → HasGrown (Contains old) known more
-grown_text old text known more has grown = record {
+pub grown_weaker : (P Q : List ℕ → Type 0) → ((t : List ℕ) → P t → Q t) → (known more : Known) → HasGrown P known more → HasGrown Q known more
+grown_weaker P Q weaker known more grown = record {
   limit = grown.limit;
   front = grown.front;
   more = grown.more;
   added = grown.added;
-  allowed = All-weaker (λ (t : List ℕ). t ≡ text) (Contains old) (λ t same. subst (Contains old) (sym same) has) grown.more grown.allowed;
+  allowed = All-weaker P Q weaker grown.more grown.allowed;
 }
+
+-- the text with a number was named
+pub grown_text : (old : List (List ℕ)) (number : ℕ) (text : List ℕ) (known more : Known) → slice_get old number ≡ Some text → HasGrown (λ t. t ≡ text) known more → HasGrown (IsTextAt old number) known more
+grown_text old number text known more at = grown_weaker (λ (t : List ℕ). t ≡ text) (IsTextAt old number) (λ t same. subst (IsTextAt old number) (sym same) at) known more
 
 -- a text as a place of itself
 pub whole_text : (text : List ℕ) (whole : Span) → whole.start ≡ 0 → whole.end ≡ length text → texts_at text (whole ∷ []) ≡ text ∷ []
@@ -77,14 +81,10 @@ one_of_one : (text t : List ℕ) → Contains (text ∷ []) t → t ≡ text
 one_of_one text t (zero, low, is) = sym is
 one_of_one text t (suc k, low, is) = absurd (omega (arith, low))
 
-pub grown_spans : (old : List (List ℕ)) (text : List ℕ) (texts : List (List ℕ)) (known more : Known) → texts ≡ text ∷ [] → Contains old text → HasGrown (Contains texts) known more → HasGrown (Contains old) known more
-grown_spans old text texts known more is has grown = record {
-  limit = grown.limit;
-  front = grown.front;
-  more = grown.more;
-  added = grown.added;
-  allowed = All-weaker (Contains texts) (Contains old) (λ t held. subst (Contains old) (sym (one_of_one text t (subst (λ l. Contains l t) is held))) has) grown.more grown.allowed;
-}
+pub grown_spans : (old : List (List ℕ)) (number : ℕ) (text : List ℕ) (texts : List (List ℕ)) (known more : Known) → texts ≡ text ∷ [] → slice_get old number ≡ Some text
+    → HasGrown (Contains texts) known more → HasGrown (IsTextAt old number) known more
+grown_spans old number text texts known more is at =
+    grown_weaker (Contains texts) (IsTextAt old number) (λ t held. subst (IsTextAt old number) (sym (one_of_one text t (subst (λ l. Contains l t) is held))) at) known more
 
 -- ---- a full dictionary
 
@@ -103,15 +103,18 @@ refused_full OutOfMemory book count is = absurd (cc (is))
 
 -- ---- a table after a naming
 
-pub named_none : (old : List (List ℕ)) (known : Known) (numbers : List ℕ) → IsTable old known.texts numbers → HasNamedSome old known known numbers
-named_none old known numbers is = record { grown = grows_self (Contains old) known; kept = is }
+pub named_none : (P : List ℕ → Type 0) (old : List (List ℕ)) (known : Known) (numbers : List ℕ) → IsTable old known.texts numbers → HasNamedSome P old known known numbers
+named_none P old known numbers is = record { grown = grows_self P known; kept = is }
 
-pub named_one : (old : List (List ℕ)) (known more : Known) (before numbers : List ℕ) → HasGrown (Contains old) known more → IsTable old known.texts before
-    → (IsTable old more.texts before → IsTable old more.texts numbers) → HasNamedSome old known more numbers
-named_one old known more before numbers grown is set = record { grown = grown; kept = set (table_stays old known.texts more.texts before grown.front is) }
+pub named_one : (P : List ℕ → Type 0) (old : List (List ℕ)) (known more : Known) (before numbers : List ℕ) → HasGrown P known more → IsTable old known.texts before
+    → (IsTable old more.texts before → IsTable old more.texts numbers) → HasNamedSome P old known more numbers
+named_one P old known more before numbers grown is set = record { grown = grown; kept = set (table_stays old known.texts more.texts before grown.front is) }
 
-pub named_then : (old : List (List ℕ)) (a b c : Known) (some numbers : List ℕ) → HasNamedSome old a b some → HasNamedSome old b c numbers → HasNamedSome old a c numbers
-named_then old a b c some numbers one two = record { grown = grows_then (Contains old) a b c one.grown two.grown; kept = two.kept }
+pub named_then : (P : List ℕ → Type 0) (old : List (List ℕ)) (a b c : Known) (some numbers : List ℕ) → HasNamedSome P old a b some → HasNamedSome P old b c numbers → HasNamedSome P old a c numbers
+named_then P old a b c some numbers one two = record { grown = grows_then P a b c one.grown two.grown; kept = two.kept }
+
+pub named_weaker : (P Q : List ℕ → Type 0) → ((t : List ℕ) → P t → Q t) → (old : List (List ℕ)) (known more : Known) (numbers : List ℕ) → HasNamedSome P old known more numbers → HasNamedSome Q old known more numbers
+named_weaker P Q weaker old known more numbers named = record { grown = grown_weaker P Q weaker known more named.grown; kept = named.kept }
 
 -- ---- log types
 
@@ -121,21 +124,21 @@ found_known None now named number told some = absurd (cc (some))
 found_known (Some a) now named number told some = (now a, told)
 
 -- only log types were named
-pub named_types : (types words : List (List ℕ)) (t t_new w w_new : Known) (tables : Tables) → HasGrown (Contains types) t t_new → w_new ≡ w
+pub named_types : (P : Which → List ℕ → Type 0) (types words : List (List ℕ)) (t t_new w w_new : Known) (tables : Tables) → HasGrown (P Types) t t_new → w_new ≡ w
     → AreLogTypes types t_new.texts tables.log_types.named.items → IsTable words w.texts tables.words.numbers.items
-    → HasNamedBoth types words t t_new w w_new tables
-named_types types words t t_new w w_new tables grown same are is = record {
+    → HasNamedBoth P types words t t_new w w_new tables
+named_types P types words t t_new w w_new tables grown same are is = record {
   types_grown = grown;
-  words_grown = subst (λ (k : Known). HasGrown (Contains words) w k) (sym same) (grows_self (Contains words) w);
+  words_grown = subst (λ (k : Known). HasGrown (P Words) w k) (sym same) (grows_self (P Words) w);
   kept = record { log_types = are; words_are = subst (λ (k : Known). IsTable words k.texts tables.words.numbers.items) (sym same) is };
 }
 
 -- and then words
-pub named_words : (types words : List (List ℕ)) (t t_mid t_new w w_mid w_new : Known) (tables : Tables) → HasGrown (Contains types) t t_mid → t_new ≡ t_mid
-    → AreLogTypes types t_mid.texts tables.log_types.named.items → w_mid ≡ w → HasNamedSome words w_mid w_new tables.words.numbers.items
-    → HasNamedBoth types words t t_new w w_new tables
-named_words types words t t_mid t_new w w_mid w_new tables grown same are before some = record {
-  types_grown = subst (λ (k : Known). HasGrown (Contains types) t k) (sym same) grown;
-  words_grown = subst (λ (k : Known). HasGrown (Contains words) k w_new) before some.grown;
+pub named_words : (P : Which → List ℕ → Type 0) (types words : List (List ℕ)) (t t_mid t_new w w_mid w_new : Known) (tables : Tables) → HasGrown (P Types) t t_mid → t_new ≡ t_mid
+    → AreLogTypes types t_mid.texts tables.log_types.named.items → w_mid ≡ w → HasNamedSome (P Words) words w_mid w_new tables.words.numbers.items
+    → HasNamedBoth P types words t t_new w w_new tables
+named_words P types words t t_mid t_new w w_mid w_new tables grown same are before some = record {
+  types_grown = subst (λ (k : Known). HasGrown (P Types) t k) (sym same) grown;
+  words_grown = subst (λ (k : Known). HasGrown (P Words) k w_new) before some.grown;
   kept = record { log_types = subst (λ (k : Known). AreLogTypes types k.texts tables.log_types.named.items) (sym same) are; words_are = some.kept };
 }

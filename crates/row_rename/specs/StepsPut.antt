@@ -1,5 +1,6 @@
 -- What steps on the way through the slots of a row make.
 use Rattle.std.specs.Prelude.{◌≡◌, ℕ, List, [], ◌∷◌, ◌++◌}
+use Rattle.std.specs.List.{Contains}
 use mathlib.Core.List.{IsPrefix}
 use Rattle.logtype_text.specs.declared.symbols.Kind.{Kind}
 use Rattle.row_codec.specs.Numbers.{word_numbers}
@@ -20,3 +21,4 @@ pub record HasPut (old new : List (List ℕ)) (kinds rest : List Kind) (words le
       → AreRenamed old more kinds words (out ++ tail)
   pub numbers : (tail : List ℕ) → word_numbers kinds (out ++ tail) ≡ used ++ word_numbers rest tail
   pub may : MayRenameWords old kinds words → MayRenameWords old rest left
+  pub within : (number : ℕ) → Contains (word_numbers rest left) number → Contains (word_numbers kinds words) number

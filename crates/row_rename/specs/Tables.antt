@@ -1,6 +1,7 @@
 -- Which new numbers are known of old ones.
 use Rattle.std.specs.Prelude.{◌≡◌, ◌≢◌, ℕ, false, List, Option, Some, slice_get}
-use Rattle.std.specs.List.{Contains}
+use Rattle.row_codec.specs.declared.namer.Which.{Which}
+use Rattle.row_codec.specs.declared.namer.Which.TheVariants.{Types, Words}
 use Rattle.row_codec.specs.Naming.{HasGrown, Known}
 use Rattle.row_codec.specs.Numbers.{kinds_from}
 use Rattle.row_rename.specs.Renamed.{HaveOneText}
@@ -30,14 +31,14 @@ pub record AreTables (types words new_types new_words : List (List ℕ)) (tables
   pub log_types : AreLogTypes types new_types tables.log_types.named.items
   pub words_are : IsTable words new_words tables.words.numbers.items
 
--- of the new texts more are known, and what the namer added of them are old ones
-pub record HasNamedSome (old : List (List ℕ)) (known more : Known) (numbers : List ℕ) : Type 0 where
-  pub grown : HasGrown (Contains old) known more
+-- of the new texts more are known, and what the namer added of them are such texts
+pub record HasNamedSome (P : List ℕ → Type 0) (old : List (List ℕ)) (known more : Known) (numbers : List ℕ) : Type 0 where
+  pub grown : HasGrown P known more
   pub kept : IsTable old more.texts numbers
 
 -- so it is with the log types and the words, and the tables hold of them
-pub record HasNamedBoth (types words : List (List ℕ)) (types_before types_after words_before words_after : Known)
-    (tables : Tables) : Type 0 where
-  pub types_grown : HasGrown (Contains types) types_before types_after
-  pub words_grown : HasGrown (Contains words) words_before words_after
+pub record HasNamedBoth (P : Which → List ℕ → Type 0) (types words : List (List ℕ))
+    (types_before types_after words_before words_after : Known) (tables : Tables) : Type 0 where
+  pub types_grown : HasGrown (P Types) types_before types_after
+  pub words_grown : HasGrown (P Words) words_before words_after
   pub kept : AreTables types words types_after.texts words_after.texts tables

@@ -1,12 +1,11 @@
 //! Naming one text of an archive in the dictionaries of another.
 ghost use Rattle.std.specs.Prelude.{◌≡◌, ◌↔◌, ℕ, IfOk, IsErrOf, IsTrue};
-ghost use Rattle.std.specs.List.{Contains};
 ghost use Rattle.logtype_text.specs.Fair.{IsFairType, IsFairWord};
 ghost use Rattle.row_codec.specs.Naming.{HasGrown};
 ghost use Rattle.row_codec.specs.declared.namer.Which.TheVariants.{Types, Words};
 ghost use Rattle.row_rename.specs.Causes.{HasFairText, IsFullOf};
 ghost use Rattle.row_rename.specs.Paths.{HasNamedMore};
-ghost use Rattle.row_rename.specs.Renamed.{HaveOneText};
+ghost use Rattle.row_rename.specs.Renamed.{HaveOneText, IsTextAt};
 ghost use Rattle.row_rename.specs.Tables.{IsLogType};
 ghost use Rattle.row_rename.specs.declared.refusal.RenameRefusal.TheVariants.{Damaged};
 
@@ -40,7 +39,7 @@ pub(crate) fn name_log_type<M: Names, N: Namer>(
     // what stays, and what is named
     ensures others { (N.version namer.new ≡ N.version namer.old)
         × (N.words namer.new ≡ N.words namer.old) }
-    ensures grown { HasGrown (Contains (M.types names.now))
+    ensures grown { HasGrown (IsTextAt (M.types names.now) number)
         (N.types namer.old) (N.types namer.new) }
     ensures path { HasNamedMore N.naming namer.old namer.new }
 
@@ -78,7 +77,7 @@ pub(crate) fn name_word<M: Names, N: Namer>(
     // what stays, and what is named
     ensures others { (N.version namer.new ≡ N.version namer.old)
         × (N.types namer.new ≡ N.types namer.old) }
-    ensures grown { HasGrown (Contains (M.words names.now))
+    ensures grown { HasGrown (IsTextAt (M.words names.now) number)
         (N.words namer.old) (N.words namer.new) }
     ensures path { HasNamedMore N.naming namer.old namer.new }
 

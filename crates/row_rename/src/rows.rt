@@ -1,6 +1,5 @@
 //! Renaming rows.
 ghost use Rattle.std.specs.Prelude.{◌≡◌, ◌++◌, ℕ, IsErrOf, OnOk, Some, slice_get};
-ghost use Rattle.std.specs.List.{Contains};
 ghost use Rattle.logtype_text.specs.Fair.{IsFairType};
 ghost use Rattle.column_store.specs.Row.{row_of};
 ghost use Rattle.row_codec.specs.Naming.{HasGrown};
@@ -8,7 +7,7 @@ ghost use Rattle.row_codec.specs.Numbers.{numbers_of_row};
 ghost use Rattle.row_codec.specs.declared.namer.Which.TheVariants.{Types};
 ghost use Rattle.row_rename.specs.Causes.{HasFairText, IsFull, IsFullOf, MayRename};
 ghost use Rattle.row_rename.specs.Paths.{HasNamedMore};
-ghost use Rattle.row_rename.specs.Renamed.{IsRenamed, row_in, used_in};
+ghost use Rattle.row_rename.specs.Renamed.{IsRenamed, IsTextAt, IsTextOfRow, row_in, used_in};
 ghost use Rattle.row_rename.specs.Tables.{AreLogTypes, AreTables, HasNamedBoth};
 ghost use Rattle.row_rename.specs.declared.refusal.RenameRefusal.TheVariants.{Damaged};
 
@@ -36,7 +35,7 @@ fn rename_type<M: Names, N: Namer>(
     // what stays, and what is named
     ensures others { (N.version namer.new ≡ N.version namer.old)
         × (N.words namer.new ≡ N.words namer.old) }
-    ensures grown { HasGrown (Contains (M.types names.now))
+    ensures grown { HasGrown (IsTextAt (M.types names.now) number)
         (N.types namer.old) (N.types namer.new) }
     ensures kept { AreLogTypes (M.types names.now) (N.types namer.new).texts
         log_types.new.named.items }
@@ -81,7 +80,9 @@ pub fn rename_row<M: Names, N: Namer>(
 
     // what stays, and what is named
     ensures version { N.version namer.new ≡ N.version namer.old }
-    ensures named { HasNamedBoth (M.types names.now) (M.words names.now) (N.types namer.old)
+    ensures named { HasNamedBoth
+        (IsTextOfRow (M.types names.now) (M.words names.now) (row_of row.entry))
+        (M.types names.now) (M.words names.now) (N.types namer.old)
         (N.types namer.new) (N.words namer.old) (N.words namer.new) tables.new }
     ensures path { HasNamedMore N.naming namer.old namer.new }
 

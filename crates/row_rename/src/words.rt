@@ -1,11 +1,11 @@
 //! Renaming the words of a row.
-ghost use Rattle.std.specs.Prelude.{◌≡◌, ◌++◌, ℕ, IfOk, IsErrOf, OnOk};
+ghost use Rattle.std.specs.Prelude.{◌≡◌, ◌++◌, ◌∷◌, [], ℕ, IfOk, IsErrOf, OnOk};
 ghost use Rattle.logtype_text.specs.Fair.{IsFairWord};
 ghost use Rattle.row_codec.specs.Numbers.{word_numbers};
 ghost use Rattle.row_codec.specs.declared.namer.Which.TheVariants.{Words};
 ghost use Rattle.row_rename.specs.Causes.{HasFairText, IsFullOf, MayRenameWords};
 ghost use Rattle.row_rename.specs.Paths.{HasNamedMore};
-ghost use Rattle.row_rename.specs.Renamed.{AreRenamed, HaveOneText};
+ghost use Rattle.row_rename.specs.Renamed.{AreRenamed, HaveOneText, IsTextAmong, IsTextAt};
 ghost use Rattle.row_rename.specs.StepsPut.{PutsSlot};
 ghost use Rattle.row_rename.specs.Tables.{HasNamedSome, IsTable};
 ghost use Rattle.row_rename.specs.declared.refusal.RenameRefusal.TheVariants.{Damaged};
@@ -31,8 +31,8 @@ fn rename_word<M: Names, N: Namer>(
     // what stays, and what is named
     ensures others { (N.version namer.new ≡ N.version namer.old)
         × (N.types namer.new ≡ N.types namer.old) }
-    ensures words { HasNamedSome (M.words names.now) (N.words namer.old) (N.words namer.new)
-        table.new.numbers.items }
+    ensures words { HasNamedSome (IsTextAt (M.words names.now) word)
+        (M.words names.now) (N.words namer.old) (N.words namer.new) table.new.numbers.items }
     ensures path { HasNamedMore N.naming namer.old namer.new }
 
     // by the answer
@@ -73,8 +73,9 @@ fn put_slot<M: Names, N: Namer>(
     // what stays, and what is named
     ensures others { (N.version namer.new ≡ N.version namer.old)
         × (N.types namer.new ≡ N.types namer.old) }
-    ensures words { HasNamedSome (M.words names.now) (N.words namer.old) (N.words namer.new)
-        table.new.numbers.items }
+    ensures words { HasNamedSome
+        (IsTextAmong (M.words names.now) (word_numbers (kind ∷ []) (word ∷ [])))
+        (M.words names.now) (N.words namer.old) (N.words namer.new) table.new.numbers.items }
     ensures path { HasNamedMore N.naming namer.old namer.new }
 
     // by the answer
@@ -113,8 +114,9 @@ pub(crate) fn rename_words<M: Names, N: Namer>(
     // what stays, and what is named
     ensures others { (N.version namer.new ≡ N.version namer.old)
         × (N.types namer.new ≡ N.types namer.old) }
-    ensures words { HasNamedSome (M.words names.now) (N.words namer.old) (N.words namer.new)
-        table.new.numbers.items }
+    ensures words { HasNamedSome
+        (IsTextAmong (M.words names.now) (word_numbers kinds.now words.now))
+        (M.words names.now) (N.words namer.old) (N.words namer.new) table.new.numbers.items }
     ensures path { HasNamedMore N.naming namer.old namer.new }
 
     // by the answer

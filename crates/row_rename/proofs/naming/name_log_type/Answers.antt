@@ -20,7 +20,7 @@ kinds_of-requires g c =
 pub returns-in_err-renamed-clause-grown : goal.returns-in_err-renamed-clause-grown
 returns-in_err-renamed-clause-grown g c =
     let text = c.in-Some.text.now in
-    grown_text _ text _ _ (contains_at _ c.args.number text c.in-Some.ensures) c.name_type.ensures.grown
+    grown_text _ c.args.number text _ _ c.in-Some.ensures c.name_type.ensures.grown
 
 pub returns-in_err-renamed-clause-path : goal.returns-in_err-renamed-clause-path
 returns-in_err-renamed-clause-path g c = path_one g.N.Namer.naming Types _ _ c.args.namer.now _ c.name_type.ensures.naming
@@ -40,7 +40,7 @@ returns-in_err-renamed-clause-full g c = λ book count same.
 pub returns-clause-grown : goal.returns-clause-grown
 returns-clause-grown g c =
     let text = c.in-Some.text.now in
-    grown_text _ text _ _ (contains_at _ c.args.number text c.in-Some.ensures) c.name_type.ensures.grown
+    grown_text _ c.args.number text _ _ c.in-Some.ensures c.name_type.ensures.grown
 
 pub returns-clause-path : goal.returns-clause-path
 returns-clause-path g c = path_one g.N.Namer.naming Types _ _ c.args.namer.now _ c.name_type.ensures.naming

@@ -12,7 +12,7 @@ use Rattle.row_rename.proofs.naming.name_word.Goals as goal
 pub returns-in_err-name_spans-clause-grown : goal.returns-in_err-name_spans-clause-grown
 returns-in_err-name_spans-clause-grown g c =
     let text = c.in-Some.text.now in
-    grown_spans _ text _ _ _ (whole_text text _ refl refl) (contains_at _ c.args.number text c.in-Some.ensures.found) c.name_spans.ensures.grown
+    grown_spans _ c.args.number text _ _ _ (whole_text text _ refl refl) c.in-Some.ensures.found c.name_spans.ensures.grown
 
 pub returns-in_err-name_spans-clause-path : goal.returns-in_err-name_spans-clause-path
 returns-in_err-name_spans-clause-path g c = path_one g.N.Namer.naming Words _ _ c.args.namer.now _ c.name_spans.ensures.naming
@@ -32,7 +32,7 @@ returns-in_err-name_spans-clause-full g c = λ book count same.
 pub returns-clause-grown : goal.returns-clause-grown
 returns-clause-grown g c =
     let text = c.in-Some.text.now in
-    grown_spans _ text _ _ _ (whole_text text _ refl refl) (contains_at _ c.args.number text c.in-Some.ensures.found) c.name_spans.ensures.grown
+    grown_spans _ c.args.number text _ _ _ (whole_text text _ refl refl) c.in-Some.ensures.found c.name_spans.ensures.grown
 
 pub returns-clause-path : goal.returns-clause-path
 returns-clause-path g c = path_one g.N.Namer.naming Words _ _ c.args.namer.now _ c.name_spans.ensures.naming

@@ -1,13 +1,16 @@
-use Rattle.std.proofs.Common.{◌≡◌}
+use Rattle.std.proofs.Common.{◌≡◌, rules, subst}
 use Rattle.std.specs.Prelude.{Err, IsErrOf}
 use Rattle.std.proofs.lemmas.Result.{err_from_is_err_and}
 use Rattle.row_rename.specs.declared.refusal.RenameRefusal.TheVariants.{Full}
+use Rattle.row_codec.specs.Naming.{HasGrown}
+use Rattle.row_rename.specs.Renamed.{IsTextAt}
 use Rattle.row_rename.proofs.TableLemmas.{named_one}
 use Rattle.row_rename.proofs.words.rename_word.Goals as goal
 
 pub returns-in_err-renamed-clause-words : goal.returns-in_err-renamed-clause-words
 returns-in_err-renamed-clause-words g c =
-    named_one (g.M.Names.words c.args.names.now) (g.N.Namer.words c.args.namer.now) (g.N.Namer.words c.name_word.new.namer) c.args.table.now.numbers.items c.args.table.now.numbers.items c.name_word.ensures.grown c.requires (λ is. is)
+    let same : c.in-Ok.number ≡ c.args.word = search rules in
+    named_one (IsTextAt (g.M.Names.words c.args.names.now) c.args.word) (g.M.Names.words c.args.names.now) (g.N.Namer.words c.args.namer.now) (g.N.Namer.words c.name_word.new.namer) c.args.table.now.numbers.items c.args.table.now.numbers.items (subst (λ n. HasGrown (IsTextAt (g.M.Names.words c.args.names.now) n) (g.N.Namer.words c.args.namer.now) (g.N.Namer.words c.name_word.new.namer)) same c.name_word.ensures.grown) c.requires (λ is. is)
 
 pub returns-in_err-renamed-clause-full : goal.returns-in_err-renamed-clause-full
 returns-in_err-renamed-clause-full g c = λ book count same.
@@ -20,11 +23,13 @@ returns-in_err-renamed-clause-full g c = λ book count same.
 pub returns-in_err-set-clause-words : goal.returns-in_err-set-clause-words
 returns-in_err-set-clause-words g c =
     let old = g.M.Names.words c.args.names.now in
+    let same : c.in-Ok.number ≡ c.args.word = search rules in
     let more = g.N.Namer.words c.name_word.new.namer in
-    named_one old (g.N.Namer.words c.args.namer.now) more c.args.table.now.numbers.items c.set.new.self.numbers.items c.name_word.ensures.grown c.requires (λ is. c.set.ensures old more.texts is c.in_ok-renamed.ensures.named)
+    named_one (IsTextAt old c.args.word) old (g.N.Namer.words c.args.namer.now) more c.args.table.now.numbers.items c.set.new.self.numbers.items (subst (λ n. HasGrown (IsTextAt old n) (g.N.Namer.words c.args.namer.now) more) same c.name_word.ensures.grown) c.requires (λ is. c.set.ensures old more.texts is c.in_ok-renamed.ensures.named)
 
 pub returns-clause-words : goal.returns-clause-words
 returns-clause-words g c =
     let old = g.M.Names.words c.args.names.now in
+    let same : c.in-Ok.number ≡ c.args.word = search rules in
     let more = g.N.Namer.words c.name_word.new.namer in
-    named_one old (g.N.Namer.words c.args.namer.now) more c.args.table.now.numbers.items c.set.new.self.numbers.items c.name_word.ensures.grown c.requires (λ is. c.set.ensures old more.texts is c.in_ok-renamed.ensures.named)
+    named_one (IsTextAt old c.args.word) old (g.N.Namer.words c.args.namer.now) more c.args.table.now.numbers.items c.set.new.self.numbers.items (subst (λ n. HasGrown (IsTextAt old n) (g.N.Namer.words c.args.namer.now) more) same c.name_word.ensures.grown) c.requires (λ is. c.set.ensures old more.texts is c.in_ok-renamed.ensures.named)

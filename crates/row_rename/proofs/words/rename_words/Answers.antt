@@ -5,11 +5,12 @@ use Rattle.std.proofs.lemmas.Result.{err_from_is_err_and}
 use Rattle.logtype_text.specs.declared.symbols.Kind.{Kind}
 use Rattle.logtype_text.specs.declared.symbols.Kind.TheVariants.{Whole}
 use Rattle.row_rename.specs.declared.refusal.RenameRefusal.TheVariants.{Full}
+use Rattle.row_rename.specs.Renamed.{IsTextAmong}
 use Rattle.row_rename.specs.StepsPut.{HasPut}
 use Rattle.row_codec.specs.Numbers.{word_numbers}
 use Rattle.row_rename.proofs.PathLemmas.{path_then}
-use Rattle.row_rename.proofs.RenameLemmas.{none_left, numbers_all, put_all, put_more}
-use Rattle.row_rename.proofs.TableLemmas.{named_then}
+use Rattle.row_rename.proofs.RenameLemmas.{none_left, numbers_all, put_all, put_at, put_more, text_within}
+use Rattle.row_rename.proofs.TableLemmas.{named_then, named_weaker}
 use Rattle.row_rename.proofs.words.rename_words.Goals as goal
 
 pub returns-in_default-clause-damaged : goal.returns-in_default-clause-damaged
@@ -18,7 +19,22 @@ returns-in_default-clause-damaged g c = λ is may.
     none_left (g.M.Names.words c.args.names.now) (drop now.kind-index c.args.kinds.now) now.left.now (omega (arith, length-drop now.kind-index c.args.kinds.now)) c.in_default.ensures.cases (now.invariant.put.may may)
 
 pub returns-in_err-put_slot-clause-words : goal.returns-in_err-put_slot-clause-words
-returns-in_err-put_slot-clause-words g c = named_then _ _ _ _ _ _ c.loop-kind.invariant.named c.put_slot.ensures.words
+returns-in_err-put_slot-clause-words g c =
+    let now = c.loop-kind in
+    let old = g.M.Names.words c.args.names.now in
+    let kinds = c.args.kinds.now in
+    let words = c.args.words.now in
+    let rest = drop (now.kind-index + 1) kinds in
+    let kind = get_or kinds now.kind-index Whole in
+    let word = c.in-Some.word.now in
+    let behind = c.in-Some.behind.now in
+    let at : drop now.kind-index kinds ≡ kind ∷ rest = drop_more kinds now.kind-index Whole (omega arith) in
+    let first : now.left.now ≡ word ∷ behind = search rules in
+    named_then _ _ _ _ _ _ _ now.invariant.named
+    (named_weaker (IsTextAmong old (word_numbers (kind ∷ []) (word ∷ []))) (IsTextAmong old (word_numbers kinds words))
+    (text_within old (g.N.Namer.words now.namer).texts kinds rest kind words behind word now.renamed.words.items now.invariant.done
+    (put_at _ _ _ _ _ _ _ _ _ _ at first now.invariant.put))
+    old (g.N.Namer.words now.namer) (g.N.Namer.words c.put_slot.new.namer) c.put_slot.new.table.numbers.items c.put_slot.ensures.words)
 
 pub returns-in_err-put_slot-clause-path : goal.returns-in_err-put_slot-clause-path
 returns-in_err-put_slot-clause-path g c = path_then g.N.Namer.naming _ _ _ c.loop-kind.invariant.path c.put_slot.ensures.path
@@ -49,11 +65,13 @@ loop-kind-preserved g c =
     let numbers = word_numbers (kind ∷ []) (put.renamed ∷ []) in
     let at : drop now.kind-index kinds ≡ kind ∷ rest = drop_more kinds now.kind-index Whole (omega arith) in
     let first : now.left.now ≡ word ∷ behind = search rules in
-    let has : HasPut old known kinds (kind ∷ rest) words (word ∷ behind) out done = subst (λ (l : List ℕ). HasPut old known kinds (kind ∷ rest) words l out done) first (subst (λ (k : List Kind). HasPut old known kinds k words now.left.now out done) at now.invariant.put) in
+    let has : HasPut old known kinds (kind ∷ rest) words (word ∷ behind) out done = put_at _ _ _ _ _ _ _ _ _ _ at first now.invariant.put in
     record {
       version = c.put_slot.ensures.others.0 ∙ now.invariant.version;
       types = c.put_slot.ensures.others.1 ∙ now.invariant.types;
-      named = named_then _ _ _ _ _ _ now.invariant.named c.put_slot.ensures.words;
+      named = named_then _ _ _ _ _ _ _ now.invariant.named
+          (named_weaker (IsTextAmong old (word_numbers (kind ∷ []) (word ∷ []))) (IsTextAmong old (word_numbers kinds words))
+          (text_within old known kinds rest kind words behind word out done has) old (g.N.Namer.words now.namer) (g.N.Namer.words c.put_slot.new.namer) c.put_slot.new.table.numbers.items c.put_slot.ensures.words);
       path = path_then g.N.Namer.naming _ _ _ now.invariant.path c.put_slot.ensures.path;
       done = done ++ numbers;
       used = put.numbered ∙ ap (λ (l : List ℕ). l ++ numbers) now.invariant.used ∙ append_assoc c.args.renamed.now.used.items done numbers;
