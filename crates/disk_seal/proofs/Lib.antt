@@ -2,6 +2,7 @@ pub mod NamerLemmas
 pub mod ToldLemmas
 pub mod KeptLemmas
 pub mod EachLemmas
+pub mod SavedLemmas
 pub mod SealLemmas
 pub mod CollectLemmas
 pub mod NextLemmas

@@ -113,6 +113,12 @@ module _ {D : Type 0} where
         end_of (Ok end) all is = omega (arith, is, all.place)
         end_of (Err f) all is = tt
 
-    module _ (st : Stays v w) (leaves : v.stopped ≡ None → LeavesFirst (added_by ps) s t) (rests : v.stopped ≢ None → w ≡ v) where
+    module _ (kept : Kept t) (st : Stays v w) (leaves : v.stopped ≡ None → LeavesFirst (added_by ps) s t) (rests : v.stopped ≢ None → w ≡ v) where
       abbrev pub put_back : HasPutBack state v (added_by ps) q
-      put_back = record { store = w; entries = sym is; leaves = leaves; rests = rests }
+      put_back = record {
+        store = w;
+        in_lock = record { kept = kept; fixed = λ a known. put_fixed state v w p may.hand st a (sym still.about_is ∙ known); entries = sym is };
+        stays = st;
+        leaves = leaves;
+        rests = rests;
+      }

@@ -1,5 +1,5 @@
 -- When a pass may prepare a draft, and what it then has.
-use Rattle.std.specs.Prelude.{◌≡◌, ℕ, ◌+◌, ◌<◌, ◌≤◌, List, length, min, is_some, All, None, Some}
+use Rattle.std.specs.Prelude.{◌≡◌, ℕ, ◌+◌, ◌<◌, ◌≤◌, ◌++◌, List, length, min, is_some, All, None, Some}
 use mathlib.Core.List.{IsPrefix}
 use Rattle.log_seams.specs.Disk.{DiskState}
 use Rattle.log_seams.specs.Outside.{Rose}
@@ -8,13 +8,14 @@ use Rattle.turn_lock.specs.declared.note.Note.{Note}
 use Rattle.turn_lock.specs.Words.{seen, own_list, about, lock_of, lock_noted, noted, IsReady, IsStill}
 use Rattle.dict_core.specs.Books.{BookState}
 use Rattle.archive_meaning.specs.declared.entry.JournalEntry.{JournalEntry}
-use Rattle.archive_meaning.specs.Spelled.{end_of}
+use Rattle.archive_meaning.specs.Spelled.{end_of, types_of}
 use Rattle.disk_seal.specs.declared.draft.Draft.{Draft}
 use Rattle.disk_seal.specs.declared.faults.DiskFault.{DiskFault}
 use Rattle.disk_seal.specs.declared.fixed.StoreFixed.{StoreFixed}
 use Rattle.disk_seal.specs.declared.pieces.Piece.{Piece}
 use Rattle.disk_seal.specs.Told.{IfTold}
 use Rattle.ingest_meaning.specs.Room.{needed_behind}
+use Rattle.ingest_meaning.specs.WordsIn.{words_of}
 use Rattle.disk_seal.specs.View.{StoreView, StoreState, state_by, tells, journal_of}
 use Rattle.disk_seal.specs.Fixed.{KeeperPass}
 use Rattle.disk_seal.specs.May.{MayAdd}
@@ -33,15 +34,22 @@ abbrev pub MayFollowNow : Draft → List (List ℕ) → List (List ℕ) → Stor
 MayFollowNow d types words s =
     s.stopped ≡ None → IfTold (tells s) (IsBehind s.header (journal_of s) (segment_of d) types words d.words)
 
--- where the store runs and its entries are told, the records are those of all texts that are not saved, and then the draft
+-- the entries have the texts that the store's passes have seen, and no others
+pub record HaveAllTexts (es : List JournalEntry) (s : StoreState) : Type 0 where
+  pub types : types_of es ≡ seen s.types
+  pub words : words_of es ≡ seen s.words
+
+-- Where the store runs and its entries are told, the records are those of all texts that are not saved, each once and in their
+-- order, and then the draft; behind them nothing is unsaved.
 abbrev pub SavesAll : Draft → List Piece → StoreState → Type 0
-SavesAll d ps s = s.stopped ≡ None → IfTold (tells s) (added_by ps ≡ entries_with d s)
+SavesAll d ps s =
+    s.stopped ≡ None → IfTold (tells s) ((added_by ps ≡ entries_with d s) × HaveAllTexts (journal_of s ++ added_by ps) s)
 
 -- the records may be added to the store where it runs, and by the pass of the draft's file
 pub record IsPlanned (d : Draft) (ps : List Piece) (s : StoreState) : Type 0 where
   pub can : s.stopped ≡ None → CanFollow ps (front_of s)
   pub may : All (MayAdd d.file) (told_as s (added_by ps))
-  pub all : SavesAll d ps s
+  pub all : s.stopped ≡ None → IfTold (tells s) (added_by ps ≡ entries_with d s)
 
 -- so many bytes more do not fit behind the store's end; the notes are of its passes, and have seen what they have seen
 pub record IsTooLong (d : Draft) (end need : ℕ) (types words : BookNote) (s : StoreState) : Type 0 where

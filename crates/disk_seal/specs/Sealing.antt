@@ -14,7 +14,7 @@ use Rattle.disk_seal.specs.Told.{IfTold, entry_for}
 use Rattle.disk_seal.specs.View.{StoreView, StoreState, state_by, tells, journal_of, store_entries, Kept}
 use Rattle.disk_seal.specs.Fixed.{fixed_of, KeeperPass}
 use Rattle.disk_seal.specs.May.{MayAdd}
-use Rattle.disk_seal.specs.Adding.{front_of, LeavesFirst}
+use Rattle.disk_seal.specs.Adding.{front_of, LeavesFirst, Stays}
 use Rattle.disk_seal.specs.Pieces.{CanFollow, added_by, AddsSome}
 
 -- what the store's list has of entries
@@ -58,19 +58,20 @@ module _ {D : Type 0} where
     pub can : v.stopped ≡ None → CanFollow ps (front_of (state_by state v))
     pub may : All (MayAdd (number_of p)) (told_as (state_by state v) (added_by ps))
 
-  -- The store that was put back: a crash at any moment since it was this one left its journal, with none, the first, .. or
-  -- all of the entries. One that was stopped is as it was.
-  pub record HasPutBack (state : D → DiskState) (v : StoreView D) (es : List JournalEntry) (q : KeeperPass D) : Type 0 where
-    pub store : StoreView D
-    pub entries : store_entries (state_by state store) ≡ seen q
-    pub leaves : v.stopped ≡ None → LeavesFirst es (state_by state v) (state_by state store)
-    pub rests : v.stopped ≢ None → store ≡ v
-
   -- a store may be the one in the lock: it keeps what a store keeps, has the lock's fixed part, and the list that the pass has seen
   pub record IsSeenBy (state : D → DiskState) (q : KeeperPass D) (w : StoreView D) : Type 0 where
     pub kept : Kept (state_by state w)
     pub fixed : HasFixed fixed_of (about q) w
     pub entries : store_entries (state_by state w) ≡ seen q
+
+  -- The store that was put back is one of these, over the same disk and with the same passes: a crash at any moment since it was
+  -- this one left its journal, with none, the first, .. or all of the entries. One that was stopped is as it was.
+  pub record HasPutBack (state : D → DiskState) (v : StoreView D) (es : List JournalEntry) (q : KeeperPass D) : Type 0 where
+    pub store : StoreView D
+    pub in_lock : IsSeenBy state q store
+    pub stays : Stays v store
+    pub leaves : v.stopped ≡ None → LeavesFirst es (state_by state v) (state_by state store)
+    pub rests : v.stopped ≢ None → store ≡ v
 
   -- Behind a receipt every image of a store with the list that the pass has seen is an archive with the journal of before and all
   -- of the entries.

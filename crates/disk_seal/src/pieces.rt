@@ -115,6 +115,7 @@ pub(crate) fn put_pieces<'d, 'b, D: Disk>(
     let mut turn = turn;
     turn.value.facts();
     let answer = turn.value.append_pieces(pieces);
+    turn.value.facts();
     turn.put(pass);
     answer
 }

@@ -17,7 +17,7 @@ returns-clause-halted g c =
 pub returns-clause-moments : goal.returns-clause-moments
 returns-clause-moments g c =
     put_back g.D.Disk.state c.args.turn.value c.append_pieces-answer.new.self c.args.pass.now c.put.new.pass c.args.pieces.now c.append_pieces-answer.result (size_of c.args.pieces.now) c.requires c.put.ensures.still
-    c.put.ensures.ready c.put.ensures.seen c.put.ensures.own c.append_pieces-answer.ensures.stays c.append_pieces-answer.ensures.moments c.append_pieces-answer.ensures.rests
+    c.put.ensures.ready c.put.ensures.seen c.put.ensures.own c.facts-2.ensures c.append_pieces-answer.ensures.stays c.append_pieces-answer.ensures.moments c.append_pieces-answer.ensures.rests
 
 pub returns-clause-durable : goal.returns-clause-durable
 returns-clause-durable g c =

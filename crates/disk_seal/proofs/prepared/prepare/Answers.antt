@@ -2,6 +2,7 @@ use Rattle.std.proofs.Common.{sym, ap, ◌∙◌}
 use Rattle.disk_seal.specs.View.{StoreView, state_by, store_entries}
 use Rattle.turn_lock.specs.Words.{seen, noted}
 use Rattle.disk_seal.proofs.PrepareLemmas.{behind_now, is_prepared, given_back, full_at}
+use Rattle.disk_seal.proofs.SavedLemmas.{saves_all}
 use Rattle.disk_seal.proofs.prepared.prepare.Goals as goal
 
 pub plan-requires-clause-next : goal.plan-requires-clause-next
@@ -16,7 +17,8 @@ returns-in-Ok-clause-prepared g c =
     c.take-turn.ensures.still c.take-turn.ensures.seen c.take-turn.ensures.own c.in-Ok.ensures.planned
 
 pub returns-in-Ok-clause-saves : goal.returns-in-Ok-clause-saves
-returns-in-Ok-clause-saves g c = c.in-Ok.ensures.planned.all
+returns-in-Ok-clause-saves g c =
+    saves_all c.args.draft.now c.in-Ok.pieces.items (state_by g.D.Disk.state c.plan.new.self) c.facts-in-Ok.ensures c.in-Ok.ensures.planned.all
 
 pub returns-in-Err-clause-refused : goal.returns-in-Err-clause-refused
 returns-in-Err-clause-refused g c =
