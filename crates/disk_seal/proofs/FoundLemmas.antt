@@ -1,5 +1,5 @@
 -- What is read at a gate of a store's journal, and what the store keeps then.
-use Rattle.std.proofs.Common.{◌≡◌, ℕ, ◌+◌, ◌<◌, ◌≤◌, List, [], ◌∷◌, ◌++◌, Bool, true, false, length, map, take, drop, refl, sym, ap, ◌∙◌, subst, Some, None, Option, arith, append-nil, append_assoc, length-append}
+use Rattle.std.proofs.Common.{◌≡◌, ℕ, ◌+◌, ◌<◌, ◌≤◌, List, [], ◌∷◌, ◌++◌, Bool, true, false, length, take, drop, refl, sym, ap, ◌∙◌, subst, Some, None, Option, arith, append-nil, append_assoc, length-append}
 use Rattle.std.specs.Prelude.{is_some, IfSome, IfNone, IsNone}
 use Rattle.std.proofs.lemmas.List.{length-map, take_at, drop_at}
 use mathlib.Core.List.{IsPrefix}

@@ -1,6 +1,6 @@
 -- What is put back after records were added, and what the pass then has.
 use Rattle.std.proofs.Common.{◌≡◌, ◌≢◌, ⊎_elim, inl, inr, ℕ, zero, suc, ◌+◌, List, [], ◌∷◌, ◌++◌, map, take, sym, ap, ◌∙◌, subst, Some, None, arith, append-nil, All}
-use Rattle.std.specs.Prelude.{Result, Ok, Err, OnOk, OnErr, IfOk, IfErr, is_some}
+use Rattle.std.specs.Prelude.{Result, Ok, Err, OnOk, OnErr, IfOk, IfErr}
 use Rattle.std.specs.List.{take-map}
 use Rattle.std.proofs.lemmas.List.Elements.{All-append, All-take, All-nil}
 use Rattle.log_seams.specs.Disk.{DiskState}
@@ -11,8 +11,8 @@ use Rattle.disk_seal.specs.declared.entry.StoreEntry.{StoreEntry}
 use Rattle.disk_seal.specs.declared.entry.StoreEntry.TheVariants.{Stopped}
 use Rattle.disk_seal.specs.declared.faults.DiskFault.{DiskFault}
 use Rattle.disk_seal.specs.declared.pieces.Piece.{Piece}
-use Rattle.disk_seal.specs.Told.{IfTold, entry_for}
-use Rattle.disk_seal.specs.View.{StoreView, StoreState, state_by, tells, journal_of, store_entries, Kept}
+use Rattle.disk_seal.specs.Told.{entry_for}
+use Rattle.disk_seal.specs.View.{StoreView, StoreState, state_by, tells, store_entries, Kept}
 use Rattle.disk_seal.specs.Fixed.{fixed_of, KeeperPass}
 use Rattle.disk_seal.specs.May.{MayAdd}
 use Rattle.disk_seal.specs.Adding.{Stays, LeavesFirst}
