@@ -1,6 +1,6 @@
 -- What is known of texts stays as more of them are named, and why one was not named.
 use Rattle.std.proofs.Common.{◌≡◌, ◌≢◌, ℕ, zero, suc, List, [], ◌∷◌, ◌++◌, append_assoc, length, sym, ◌∙◌, ap, subst, arith}
-use Rattle.std.specs.Prelude.{All, MatchOption, is_some, true, Option, None, Some, slice_get, slice_range}
+use Rattle.std.specs.Prelude.{MatchOption, is_some, true, Option, None, Some, slice_get, slice_range}
 use Rattle.std.specs.List.{Contains}
 use Rattle.std.proofs.lemmas.List.{append-nil, take_rest}
 use Rattle.std.proofs.lemmas.List.Elements.{All-weaker}

@@ -1,8 +1,7 @@
-use Rattle.std.proofs.Common.{◌≡◌, ℕ, List, ◌++◌, [], ◌∷◌, rules, arith, drop, get_or, ◌+◌, length-drop, ◌∙◌, ap, sym, subst, length, append_assoc}
+use Rattle.std.proofs.Common.{◌≡◌, ℕ, List, ◌++◌, [], ◌∷◌, rules, arith, drop, get_or, ◌+◌, length-drop, ◌∙◌, ap, sym, length, append_assoc}
 use Rattle.std.specs.Prelude.{Err, IsErrOf}
 use Rattle.std.proofs.lemmas.List.{drop_more}
 use Rattle.std.proofs.lemmas.Result.{err_from_is_err_and}
-use Rattle.logtype_text.specs.declared.symbols.Kind.{Kind}
 use Rattle.logtype_text.specs.declared.symbols.Kind.TheVariants.{Whole}
 use Rattle.row_rename.specs.declared.refusal.RenameRefusal.TheVariants.{Full}
 use Rattle.row_rename.specs.Renamed.{IsTextAmong}
