@@ -29,5 +29,14 @@ has_both all a b one two = has_bits all (bit_or a b) (λ i. let x = bits_of all 
 pub has_and : (a b c : ℕ) → Has a c → Has b c → Has (bit_and a b) c
 has_and a b c one two = has_bits (bit_and a b) c (λ i. let x = bits_of a c one i in let y = bits_of b c two i in omega (arith, x, y, bit_at_and a b i))
 
+-- what is among these bits, but for what others bring of some, which are among them too
+pub has_within : (bits own words brought c : ℕ) → Has bits own → Has bits (bit_and words brought) → Has (bit_or own words) c → Has brought c → Has bits c
+has_within bits own words brought c one two both there = has_bits bits c (λ i.
+    let x = bits_of bits own one i in
+    let y = bits_of bits (bit_and words brought) two i in
+    let z = bits_of (bit_or own words) c both i in
+    let w = bits_of brought c there i in
+    omega (arith, x, y, z, w, bit_at_or own words i, bit_at_and words brought i))
+
 pub has_none : (all : ℕ) → Has all 0
 has_none all = has_bits all 0 (λ i. omega arith)

@@ -1,11 +1,12 @@
 -- What the bits of a filter tell of rows.
-use Rattle.std.proofs.Common.{◌≡◌, ◌≢◌, ℕ, zero, suc, ◌+◌, ◌<◌, ◌≤◌, false, List, [], ◌∷◌, ◌++◌, length, get_or, map, refl, sym, ◌∙◌, ap, subst, arith, inl, inr, length-append}
-use Rattle.std.specs.Prelude.{◌⊎◌, Option, None, Some, Result, Ok, Err, IfOk, bit_or, slice_get, slice_index_or}
+use Rattle.std.proofs.Common.{◌≡◌, ◌≢◌, ℕ, zero, suc, ◌+◌, ◌<◌, ◌≤◌, false, true, List, [], ◌∷◌, ◌++◌, length, get_or, map, refl, sym, ◌∙◌, ap, subst, arith, inl, inr, length-append}
+use Rattle.std.specs.Prelude.{◌⊎◌, Option, None, Some, Result, Ok, Err, IfOk, bit_and, bit_or, slice_get, slice_index_or}
 use Rattle.std.specs.List.{Contains}
-use Rattle.std.proofs.lemmas.Bool.{cases_lt}
+use Rattle.std.proofs.lemmas.Bool.{cases_Bool, cases_lt}
 use Rattle.std.specs.Fmt.{signed_decimal}
 use Rattle.std.specs.Int.{cast_signed, w64}
 use Rattle.std.proofs.lemmas.List.{get_or_default, get_or_past}
+use Rattle.std.proofs.lemmas.Option.{get_or_from_slice_get, slice_get_within}
 use Rattle.std.proofs.lemmas.List.Elements.{All-push}
 use Rattle.logtype_text.specs.declared.symbols.Kind.{Kind}
 use Rattle.logtype_text.specs.declared.symbols.Kind.TheVariants.{Whole, Word, Decimal}
@@ -24,19 +25,19 @@ use Rattle.query_plan.specs.Pieces.{flat, wide_pieces}
 use Rattle.subquery_filter.specs.declared.run.Run.{Run}
 use Rattle.subquery_filter.specs.declared.filter.Filter.{Filter}
 use Rattle.subquery_filter.specs.declared.marks.WordMarks.{WordMarks}
-use Rattle.subquery_filter.specs.declared.slots.Beside.{Beside}
 use Rattle.subquery_filter.specs.declared.slots.KindBits.{KindBits}
 use Rattle.subquery_filter.specs.declared.slots.Slot.{Slot}
+use Rattle.subquery_filter.specs.declared.slots.Sums.{Sums}
 use Rattle.subquery_filter.specs.declared.slots.TypeTest.{TypeTest}
 use Rattle.subquery_filter.specs.declared.token.Token.{Token}
 use Rattle.subquery_filter.specs.declared.verdicts.Verdict.{Verdict}
 use Rattle.subquery_filter.specs.declared.verdicts.Verdict.TheVariants.{Rejected, Certain, Tried}
-use Rattle.subquery_filter.specs.Filter.{AreKindBits, AreSlots, AreSmall, AreTests, AsksTypes, Covers, Gives, Has, HasNoMatch, IsAsked, IsFilter, IsListed, IsRight, IsRowVerdict, IsSlot, IsTest, LacksAll, LacksRuns, LacksText, RunMarks, StampMarks, MarksOpen, MarksVariable, beside_of, marks_at, may_by}
+use Rattle.subquery_filter.specs.Filter.{AreKindBits, AreSlots, AreSmall, AreSums, AreTests, AsksTypes, Covers, Gives, Has, HasNoMatch, IsAsked, IsFilter, IsListed, IsRight, IsRowVerdict, IsSlot, IsTest, LacksAll, LacksRuns, LacksText, RunMarks, StampMarks, MarksOpen, MarksVariable, marks_at, others_of, sum_at}
 use Rattle.subquery_filter.specs.StepsFilter.{AreTokens, HasAll, HasEach, IsShut, Lacks, LacksStamp, LacksTokens, RunsBring, StampsBring, Stays}
 use Rattle.subquery_filter.specs.StepsLetters.{kinds_in}
-use Rattle.subquery_filter.specs.Tokens.{RowsBring, RowsBringChunks}
+use Rattle.subquery_filter.specs.Tokens.{RowsBring, RowsBringChunks, StandsInType}
 use Rattle.subquery_filter.specs.Verdicts.{CertainAlwaysMatches, IsCertain, IsRejected, RejectedNeverMatches}
-use Rattle.subquery_filter.proofs.BitLemmas.{has_both, has_left, has_none, has_right, has_self, has_through}
+use Rattle.subquery_filter.proofs.BitLemmas.{has_both, has_left, has_none, has_right, has_self, has_through, has_within}
 use Rattle.subquery_filter.proofs.ClosedLemmas.{are_coded, token_found}
 use Rattle.subquery_filter.proofs.BarrenLemmas.{contains_first, contains_rest, row_numbers}
 use Rattle.subquery_filter.proofs.TokenLemmas.{kinds_are}
@@ -144,25 +145,26 @@ pub slot_stays : (tokens : List Token) (old new : List Slot) (first end known pl
 slot_stays tokens old new first end known place kind stays more le (inl h) = inl (listed_stays tokens old new first end place kind stays h more le)
 slot_stays tokens old new first end known place kind stays more le (inr h) = inr h
 
-test_stays : (ps : List Piece) (tokens : List Token) (beside : Beside) (old new : List Slot) (text : List ℕ) (test : TypeTest) → Stays old new → IsTest ps tokens beside old text test → IsTest ps tokens beside new text test
-test_stays ps tokens beside old new text test stays h = record {
+test_stays : (ps : List Piece) (tokens : List Token) (others : ℕ) (old new : List Slot) (text : List ℕ) (test : TypeTest) → Stays old new → IsTest ps tokens others old text test → IsTest ps tokens others new text test
+test_stays ps tokens others old new text test stays h = record {
   right = h.right;
   gives = h.gives;
-  slots_are = λ tried place kind at. slot_stays tokens old new test.first test.end test.has place kind stays test.end (omega arith) (h.slots_are tried place kind at);
+  slots_are = λ tried listed place kind at. slot_stays tokens old new test.first test.end test.has place kind stays test.end (omega arith) (h.slots_are tried listed place kind at);
+  sums_are = h.sums_are;
 }
 
-pub tests_step : (ps : List Piece) (tokens : List Token) (beside : Beside) (types : List (List ℕ)) (count : ℕ) (slots more : List Slot) (old new : List TypeTest) (text : List ℕ) (test : TypeTest) → length old ≡ count → new ≡ old ++ test ∷ [] → slice_get types count ≡ Some text
-    → Stays slots more → IsTest ps tokens beside more text test → AreTests ps tokens beside types slots old → AreTests ps tokens beside types more new
-tests_step ps tokens beside types count slots more old new text test size is there stays here before t other found type_is test_is =
+pub tests_step : (ps : List Piece) (tokens : List Token) (others : ℕ) (types : List (List ℕ)) (count : ℕ) (slots more : List Slot) (old new : List TypeTest) (text : List ℕ) (test : TypeTest) → length old ≡ count → new ≡ old ++ test ∷ [] → slice_get types count ≡ Some text
+    → Stays slots more → IsTest ps tokens others more text test → AreTests ps tokens others types slots old → AreTests ps tokens others types more new
+tests_step ps tokens others types count slots more old new text test size is there stays here before t other found type_is test_is =
     elim (push_cases old test t found (subst (λ (l : List TypeTest). slice_get l t ≡ Some found) is test_is)) [
-      | inl earlier ↦ test_stays ps tokens beside slots more other found stays (before t other found type_is earlier)
+      | inl earlier ↦ test_stays ps tokens others slots more other found stays (before t other found type_is earlier)
       | inr (e, same) ↦
           let texts : text ≡ other = some_same (slice_get types count) text other there (ap (λ (j : ℕ). slice_get types j) (sym (e ∙ size)) ∙ type_is) in
-          subst (λ (x : TypeTest). IsTest ps tokens beside more other x) same (subst (λ x. IsTest ps tokens beside more x test) texts here)
+          subst (λ (x : TypeTest). IsTest ps tokens others more other x) same (subst (λ x. IsTest ps tokens others more x test) texts here)
     ]
 
-pub tests_none : (ps : List Piece) (tokens : List Token) (beside : Beside) (types : List (List ℕ)) (slots : List Slot) (tests : List TypeTest) → tests ≡ [] → AreTests ps tokens beside types slots tests
-tests_none ps tokens beside types slots tests none t text test found at = absurd (let e : None ≡ Some test = ap (λ (l : List TypeTest). slice_get l t) (sym none) ∙ at in cc)
+pub tests_none : (ps : List Piece) (tokens : List Token) (others : ℕ) (types : List (List ℕ)) (slots : List Slot) (tests : List TypeTest) → tests ≡ [] → AreTests ps tokens others types slots tests
+tests_none ps tokens others types slots tests none t text test found at = absurd (let e : None ≡ Some test = ap (λ (l : List TypeTest). slice_get l t) (sym none) ∙ at in cc)
 
 pub small_step : (tokens : List Token) (count : ℕ) (old new : List ℕ) (mark : ℕ) → length old ≡ count → new ≡ old ++ mark ∷ [] → MarksOpen tokens (signed_decimal (cast_signed w64 count)) mark → AreSmall tokens old → AreSmall tokens new
 small_step tokens count old new mark size is marks before n bits at =
@@ -177,37 +179,47 @@ small_none tokens small none n bits at = absurd (let e : None ≡ Some bits = ap
 pub grown : {X : Type 0} (old new : List X) (x : X) (n : ℕ) → length old ≡ n → new ≡ old ++ x ∷ [] → length new ≡ n + 1
 grown old new x n size is = omega (arith, size, ap length is, length-append old (x ∷ []))
 
-pub right_verdict : (ps : List Piece) (tokens : List Token) (beside : Beside) (text : List ℕ) (v : Verdict) → ((parts : List Part) → text ≡ type_text (map symbol_of parts) → v ≡ Rejected → IsRejected ps parts)
-    → ((parts : List Part) → text ≡ type_text (map symbol_of parts) → v ≡ Certain → IsCertain ps parts) → IsRight ps tokens beside text v
-right_verdict ps tokens beside text Rejected rejected certain = inl (λ parts is. rejected parts is refl)
-right_verdict ps tokens beside text Certain rejected certain = λ parts is. certain parts is refl
-right_verdict ps tokens beside text Tried rejected certain = tt
+pub right_verdict : (ps : List Piece) (tokens : List Token) (others : ℕ) (text : List ℕ) (v : Verdict) → ((parts : List Part) → text ≡ type_text (map symbol_of parts) → v ≡ Rejected → IsRejected ps parts)
+    → ((parts : List Part) → text ≡ type_text (map symbol_of parts) → v ≡ Certain → IsCertain ps parts) → IsRight ps tokens others text v
+right_verdict ps tokens others text Rejected rejected certain = inl (λ parts is. rejected parts is refl)
+right_verdict ps tokens others text Certain rejected certain = λ parts is. certain parts is refl
+right_verdict ps tokens others text Tried rejected certain = tt
 
 -- a log type of which all is told
-pub closed_is : (ps : List Piece) (tokens : List Token) (beside : Beside) (slots : List Slot) (text : List ℕ) (test : TypeTest) (v : Verdict) (first : ℕ) → test ≡ record { verdict = v; has = 0; first = first; end = first } → v ≢ Tried
-    → IsRight ps tokens beside text v → IsTest ps tokens beside slots text test
-closed_is ps tokens beside slots text test v first is other right =
-    let same : v ≡ test.verdict = sym (ap (λ (t : TypeTest). t.verdict) is) in record {
-      right = subst (IsRight ps tokens beside text) same right;
-      gives = λ tried. absurd (other (same ∙ tried));
-      slots_are = λ tried. absurd (other (same ∙ tried));
-    }
+pub closed_is : (ps : List Piece) (tokens : List Token) (others : ℕ) (slots : List Slot) (text : List ℕ) (test : TypeTest) (v : Verdict) → test.verdict ≡ v → v ≢ Tried → IsRight ps tokens others text v → IsTest ps tokens others slots text test
+closed_is ps tokens others slots text test v is other right = record {
+  right = subst (IsRight ps tokens others text) (sym is) right;
+  gives = λ tried. absurd (other (sym is ∙ tried));
+  slots_are = λ tried. absurd (other (sym is ∙ tried));
+  sums_are = λ tried. absurd (other (sym is ∙ tried));
+}
 
 -- and one whose slots are listed
-pub open_is : (ps : List Piece) (tokens : List Token) (beside : Beside) (slots : List Slot) (text : List ℕ) (test : TypeTest) → test.verdict ≡ Tried → Gives tokens text test.has → AreSlots tokens text slots test.first test.end test.has
-    → IsTest ps tokens beside slots text test
-open_is ps tokens beside slots text test tried gives are = record {
-  right = subst (IsRight ps tokens beside text) (sym tried) tt;
+pub open_is : (ps : List Piece) (tokens : List Token) (others : ℕ) (slots : List Slot) (text : List ℕ) (test : TypeTest) → test.verdict ≡ Tried → Gives tokens text test.has → AreSlots tokens text slots test.first test.end test.has
+    → AreSums tokens text test.has test.sums → IsTest ps tokens others slots text test
+open_is ps tokens others slots text test tried gives are sums = record {
+  right = subst (IsRight ps tokens others text) (sym tried) tt;
   gives = λ same. gives;
-  slots_are = λ same. are;
+  slots_are = λ same listed. are;
+  sums_are = λ same. sums;
+}
+
+-- and one whose slots are not
+pub unlisted_is : (ps : List Piece) (tokens : List Token) (others : ℕ) (slots : List Slot) (text : List ℕ) (test : TypeTest) → test.verdict ≡ Tried → test.listed ≡ false → Gives tokens text test.has
+    → ((kind : Kind) → Covers tokens kind (sum_at kind test.sums)) → IsTest ps tokens others slots text test
+unlisted_is ps tokens others slots text test tried unlisted gives covers = record {
+  right = subst (IsRight ps tokens others text) (sym tried) tt;
+  gives = λ same. gives;
+  slots_are = λ same listed. absurd (let e : false ≡ true = sym unlisted ∙ listed in cc);
+  sums_are = λ same place kind at words variable word is j d lt m. has_through (bit_or test.has (sum_at kind test.sums)) (sum_at kind test.sums) _ (has_right test.has (sum_at kind test.sums)) (covers kind words variable word is j d lt m);
 }
 
 -- what a test is told of by its slots, for one list of tokens
-pub test_told : {E : Type 0} (ps : List Piece) (tokens : List Token) (kinds : KindBits) (beside : Beside) (slots : List Slot) (text : List ℕ) (known all : ℕ) (r : Result TypeTest E) → Gives tokens text known
-    → IfOk r (λ test. (looked : List Token) → Gives looked text known → AreKindBits looked kinds → IsTest ps looked beside slots text test)
-    → IfOk r (λ test. HasAll tokens all → AreKindBits tokens kinds → IsTest ps tokens beside slots text test)
-test_told ps tokens kinds beside slots text known all (Ok test) gives told = λ has are. told tokens gives are
-test_told ps tokens kinds beside slots text known all (Err e) gives told = tt
+pub test_told : {E : Type 0} (ps : List Piece) (tokens : List Token) (kinds : KindBits) (others : ℕ) (slots : List Slot) (text : List ℕ) (known all : ℕ) (r : Result TypeTest E) → Gives tokens text known
+    → IfOk r (λ test. (looked : List Token) → Gives looked text known → AreKindBits looked kinds → IsTest ps looked others slots text test)
+    → IfOk r (λ test. HasAll tokens all → AreKindBits tokens kinds → IsTest ps tokens others slots text test)
+test_told ps tokens kinds others slots text known all (Ok test) gives told = λ has are. told tokens gives are
+test_told ps tokens kinds others slots text known all (Err e) gives told = tt
 
 pub tokens_push : (ps : List Piece) (old new : List Token) (token : Token) → new ≡ old ++ token ∷ [] → IsAsked ps token → AreTokens ps old → AreTokens ps new
 tokens_push ps old new token is asked are = subst (AreTokens ps) (sym is) (All-push (IsAsked ps) old token are asked)
@@ -233,16 +245,16 @@ row_number types row parts typed place word kind at =
 -- ---- what bits tell of a row
 
 -- these bits are all that a row brings by its variables
-abbrev pub ByVariables : Filter → TypeTest → List (List ℕ) → List ℕ → List ℕ → ℕ → Type 0
-ByVariables f test words text row bits =
+abbrev pub ByVariables : Filter → List (List ℕ) → List ℕ → List ℕ → ℕ → Type 0
+ByVariables f words text row bits =
     (place : ℕ) (kind : Kind) (word : ℕ) (variable : List ℕ) → slice_get (kinds_in false text) place ≡ Some kind → slice_get row place ≡ Some word
-    → IsListed f.tokens.items f.slots.items test.first test.end place kind → HasWord words kind variable word → MarksVariable f.tokens.items variable bits
+    → HasWord words kind variable word → MarksVariable f.tokens.items variable bits
 
 -- a row that does not bring all that is wanted is not matched
 lacks_bits : RowsBring → (ps : List Piece) (types words : List (List ℕ)) (f : Filter) → IsFilter ps types words f → (row : Row) (test : TypeTest) (bits : ℕ)
     → slice_get f.tests.items row.log_type ≡ Some test → test.verdict ≡ Tried → Has bits test.has
     → ((s : List ℕ) → HasStampText row.pattern row.moment s → StampMarks f.tokens.items s bits)
-    → ((parts : List Part) → slice_get types row.log_type ≡ Some (type_text (map symbol_of parts)) → ByVariables f test words (type_text (map symbol_of parts)) row.words bits)
+    → ((parts : List Part) → slice_get types row.log_type ≡ Some (type_text (map symbol_of parts)) → ByVariables f words (type_text (map symbol_of parts)) row.words bits)
     → ¬ Has bits f.wanted → (version : ℕ) (message : List ℕ) → IsCanonical version row types words message → ¬ Match (flat ps) message
 lacks_bits law ps types words f is row test bits at tried has stamp variables lacks version message canonical matches =
     let text = type_text (map symbol_of canonical.means.parts) in
@@ -253,20 +265,29 @@ lacks_bits law ps types words f is row test bits at tried has stamp variables la
     elim (token_found law version ps row types words text message k is.asks.cut canonical matches (is.asks.are j d lt) typed) [
       | inl (s, stamped, fits) ↦ stamp s stamped j d lt fits
       | inr (inl there) ↦ has_through bits test.has k.bit has (here.gives tried (map symbol_of canonical.means.parts, refl) j d lt there)
-      | inr (inr v) ↦ elim (here.slots_are tried v.place v.kind v.slot) [
-        | inl listed ↦ variables canonical.means.parts typed v.place v.kind v.word v.variable v.slot v.at listed v.has j d lt v.finds
-        | inr covered ↦ has_through bits test.has k.bit has (covered words v.variable v.word v.has j d lt v.finds)
-      ]
+      | inr (inr v) ↦ variables canonical.means.parts typed v.place v.kind v.word v.variable v.slot v.at v.has j d lt v.finds
     ]))
 
 row_lacks : RowsBring → (p : List Item) (types words : List (List ℕ)) (f : Filter) → IsFilter (wide_pieces p) types words f → (row : Row) (test : TypeTest)
     → slice_get f.tests.items row.log_type ≡ Some test → test.verdict ≡ Tried → Lacks f test row → IsRowVerdict (wide_pieces p) types words row Rejected
 row_lacks law p types words f is row test at tried h =
     lacks_bits law (wide_pieces p) types words f is row test h.bits at tried h.has (h.stamp is.asks.stamps)
-    (λ parts typed place kind word variable slot there listed has j d lt fits.
-    let same : (k : Kind) → k ≡ kind → HasWord words k variable word = λ k e. subst (λ (x : Kind). HasWord words x variable word) (sym e) has in
-    h.slots listed.at listed.from listed.to listed.slot word listed.is (subst (λ (n : ℕ). slice_get row.words n ≡ Some word) (sym listed.same_place) there) words variable
-    (λ w. is.marks) is.asks.brought is.asks.small is.asks.numbers (are_coded (wide_pieces p) f.tokens.items is.asks.are) (same listed.slot.kind listed.same_kind) j d lt fits (listed.covers words variable word has j d lt fits))
+    (λ parts typed place kind word variable slot there has j d lt fits.
+    let k : Token = slice_index_or f.tokens.items j d in
+    let here = is.asks.tests row.log_type (type_text (map symbol_of parts)) test typed at in
+    let coded = are_coded (wide_pieces p) f.tokens.items is.asks.are in
+    elim (cases_Bool test.listed) [
+      | inl listed ↦ elim (here.slots_are tried listed place kind slot) [
+        | inl l ↦
+            let same : (x : Kind) → x ≡ kind → HasWord words x variable word = λ x e. subst (λ (y : Kind). HasWord words y variable word) (sym e) has in
+            h.brings.slots listed l.at l.from l.to l.slot word l.is (subst (λ (n : ℕ). slice_get row.words n ≡ Some word) (sym l.same_place) there) words variable
+            (λ w. is.marks) is.asks.brought is.asks.small is.asks.numbers coded (same l.slot.kind l.same_kind) j d lt fits (l.covers words variable word has j d lt fits)
+        | inr covered ↦ has_through h.bits test.has k.bit h.has (covered words variable word has j d lt fits)
+      ]
+      | inr unlisted ↦
+          let mine : Slot = record { place = place; kind = kind; bits = k.bit } in
+          h.brings.unlisted unlisted place word there mine words variable (λ w. is.marks) is.asks.brought is.asks.small is.asks.numbers coded has j d lt fits (has_self k.bit)
+    ])
     h.lacks
 
 stamp_may : (f : Filter) (types words : List (List ℕ)) (ps : List Piece) → IsFilter ps types words f → (row : Row) (bits : ℕ) → Has bits f.stamped → (s : List ℕ) → HasStampText row.pattern row.moment s → StampMarks f.tokens.items s bits
@@ -287,29 +308,30 @@ variable_may f types words ps is bits by_numbers by_words Word word variable has
 
 -- a row of a log type whose text lacks what no stamp, no number and no word brings
 lacking_row : RowsBring → (ps : List Piece) (types words : List (List ℕ)) (f : Filter) → IsFilter ps types words f → (row : Row) (text : List ℕ) → slice_get types row.log_type ≡ Some text
-    → LacksText f.tokens.items (beside_of f) text → (version : ℕ) (message : List ℕ) → IsCanonical version row types words message → ¬ Match (flat ps) message
+    → LacksText f.tokens.items (others_of f) text → (version : ℕ) (message : List ℕ) → IsCanonical version row types words message → ¬ Match (flat ps) message
 lacking_row law ps types words f is row text here h version message canonical matches =
     let both : ℕ = bit_or f.stamped f.numbers in
     let others : ℕ = bit_or both f.brought in
-    let own : Has h.bits both = has_through h.bits others both h.has (has_left both f.brought both (has_self both)) in
-    let by_words : Has h.bits f.brought = has_through h.bits others f.brought h.has (has_right both f.brought) in
-    let by_numbers : Has h.bits f.numbers = has_through h.bits both f.numbers own (has_right f.stamped f.numbers) in
-    let by_stamps : Has h.bits f.stamped = has_through h.bits both f.stamped own (has_left f.stamped f.numbers f.stamped (has_self f.stamped)) in
+    let by_words : Has others f.brought = has_right both f.brought in
+    let by_numbers : Has others f.numbers = has_left both f.brought f.numbers (has_right f.stamped f.numbers) in
+    let by_stamps : Has others f.stamped = has_left both f.brought f.stamped (has_left f.stamped f.numbers f.stamped (has_self f.stamped)) in
     let symbols = map symbol_of canonical.means.parts in
     let same : type_text symbols ≡ text = some_same (slice_get types row.log_type) (type_text symbols) text canonical.means.typed here in
-    h.lacks (is.asks.wanted h.bits (λ j d lt.
-    let k : Token = slice_index_or f.tokens.items j d in
-    elim (token_found law version ps row types words text message k is.asks.cut canonical matches (is.asks.are j d lt) here) [
-      | inl (s, stamped, fits) ↦ stamp_may f types words ps is row h.bits by_stamps s stamped j d lt fits
-      | inr (inl there) ↦ h.gives (symbols, same) j d lt there
-      | inr (inr v) ↦ variable_may f types words ps is h.bits by_numbers by_words v.kind v.word v.variable v.has j d lt v.finds
-    ]))
+    let within : h.place < length f.tokens.items = slice_get_within f.tokens.items h.place h.token h.is in
+    let k : Token = slice_index_or f.tokens.items h.place h.token in
+    let it : k ≡ h.token = get_or_from_slice_get f.tokens.items h.place h.token h.token h.is in
+    let left : ¬ Has others k.bit = subst (λ (x : Token). ¬ Has others x.bit) (sym it) h.left in
+    elim (token_found law version ps row types words text message k is.asks.cut canonical matches (is.asks.are h.place h.token within) here) [
+      | inl (s, stamped, fits) ↦ left (stamp_may f types words ps is row others by_stamps s stamped h.place h.token within fits)
+      | inr (inl there) ↦ h.lacks (symbols, same) (subst (λ (x : Token). StandsInType x.matcher.items text) it there)
+      | inr (inr v) ↦ left (variable_may f types words ps is others by_numbers by_words v.kind v.word v.variable v.has h.place h.token within v.finds)
+    ]
 
 rejected_row : RejectedNeverMatches → RowsBring → (p : List Item) → IsSearched p → (types words : List (List ℕ)) (f : Filter) → IsFilter (wide_pieces p) types words f → (row : Row) (test : TypeTest)
     → slice_get f.tests.items row.log_type ≡ Some test → test.verdict ≡ Rejected → IsRowVerdict (wide_pieces p) types words row Rejected
 rejected_row law bring p searched types words f is row test at rejected version message canonical =
     let text = type_text (map symbol_of canonical.means.parts) in
-    let right = subst (IsRight (wide_pieces p) f.tokens.items (beside_of f) text) rejected (is.asks.tests row.log_type text test canonical.means.typed at).right in
+    let right = subst (IsRight (wide_pieces p) f.tokens.items (others_of f) text) rejected (is.asks.tests row.log_type text test canonical.means.typed at).right in
     elim right [
       | inl never ↦ law version p row types words canonical.means.parts message searched canonical.means.typed (never canonical.means.parts refl) canonical
       | inr h ↦ lacking_row bring (wide_pieces p) types words f is row text canonical.means.typed h version message canonical
@@ -319,7 +341,7 @@ certain_row : CertainAlwaysMatches → (p : List Item) (types words : List (List
     → slice_get f.tests.items row.log_type ≡ Some test → test.verdict ≡ Certain → IsRowVerdict (wide_pieces p) types words row Certain
 certain_row law p types words f asks row test at certain message spelled =
     let text = type_text (map symbol_of spelled.parts) in
-    let right = subst (IsRight (wide_pieces p) f.tokens.items (beside_of f) text) certain (asks.tests row.log_type text test spelled.typed at).right in
+    let right = subst (IsRight (wide_pieces p) f.tokens.items (others_of f) text) certain (asks.tests row.log_type text test spelled.typed at).right in
     law (wide_pieces p) row types words spelled.parts message spelled.typed (right spelled.parts refl) spelled
 
 verdict_by : RejectedNeverMatches → CertainAlwaysMatches → RowsBring → (p : List Item) → IsSearched p → (types words : List (List ℕ)) (f : Filter) → IsFilter (wide_pieces p) types words f → (row : Row) (test : TypeTest) (v : Verdict)
@@ -348,16 +370,17 @@ lacks_runs law ps types words f asks row bits marks lacks version message canoni
 
 -- ---- what they tell of a segment
 
-may_listed : (f : Filter) (types words : List (List ℕ)) (ps : List Piece) → IsFilter ps types words f → (brought bits : ℕ) (numbers : List ℕ) → HasEach f.marks numbers brought
-    → (at : ℕ) (slot : Slot) → slice_get f.slots.items at ≡ Some slot → (kind : Kind) → slot.kind ≡ kind → Has bits (may_by kind slot.bits brought)
-    → (word : ℕ) (variable : List ℕ) → (kind ≡ Word → Contains numbers word) → HasWord words kind variable word → Covers f.tokens.items kind slot.bits → MarksVariable f.tokens.items variable bits
-may_listed f types words ps is brought bits numbers each at slot there Whole same has word variable listed has_word covers =
-    λ j d lt fits. has_through bits slot.bits (slice_index_or f.tokens.items j d).bit has (covers words variable word has_word j d lt fits)
-may_listed f types words ps is brought bits numbers each at slot there Decimal same has word variable listed has_word covers =
-    λ j d lt fits. has_through bits slot.bits (slice_index_or f.tokens.items j d).bit has (covers words variable word has_word j d lt fits)
-may_listed f types words ps is brought bits numbers each at slot there Word same has word variable listed has_word covers =
-    λ j d lt fits. has_through bits brought (slice_index_or f.tokens.items j d).bit has
-    (has_through brought (marks_at f.marks word) (slice_index_or f.tokens.items j d).bit (each word (listed refl)) (is.marks word variable has_word.1 j d lt fits.0))
+-- what a variable of a row brings is among what is known of its log type and what its slots may bring in sum
+may_sum : (f : Filter) (types words : List (List ℕ)) (ps : List Piece) → IsFilter ps types words f → (sums : Sums) (known brought bits : ℕ) (numbers : List ℕ) → HasEach f.marks numbers brought
+    → Has bits known → Has bits sums.numbers → Has bits (bit_and sums.words brought) → (kind : Kind) → Covers f.tokens.items kind (bit_or known (sum_at kind sums))
+    → (word : ℕ) (variable : List ℕ) → (kind ≡ Word → Contains numbers word) → HasWord words kind variable word → MarksVariable f.tokens.items variable bits
+may_sum f types words ps is sums known brought bits numbers each own by_numbers by_words Whole covers word variable listed has =
+    λ j d lt fits. has_through bits (bit_or known sums.numbers) (slice_index_or f.tokens.items j d).bit (has_both bits known sums.numbers own by_numbers) (covers words variable word has j d lt fits)
+may_sum f types words ps is sums known brought bits numbers each own by_numbers by_words Decimal covers word variable listed has =
+    λ j d lt fits. has_through bits (bit_or known sums.numbers) (slice_index_or f.tokens.items j d).bit (has_both bits known sums.numbers own by_numbers) (covers words variable word has j d lt fits)
+may_sum f types words ps is sums known brought bits numbers each own by_numbers by_words Word covers word variable listed has =
+    λ j d lt fits. has_within bits known sums.words brought (slice_index_or f.tokens.items j d).bit own by_words (covers words variable word has j d lt fits)
+    (has_through brought (marks_at f.marks word) (slice_index_or f.tokens.items j d).bit (each word (listed refl)) (is.marks word variable has.1 j d lt fits.0))
 
 -- a row of a log type that brings less than is wanted, where the row's stamp and its words bring no more than these
 -- bits
@@ -366,10 +389,10 @@ row_shut : RowsBring → (p : List Item) (types words : List (List ℕ)) (f : Fi
     → ((s : List ℕ) → HasStampText row.pattern row.moment s → StampMarks f.tokens.items s stamped) → HasEach f.marks (numbers_of_row types row) brought → IsRowVerdict (wide_pieces p) types words row Rejected
 row_shut law p types words f is row test stamped brought at tried h stamp each version message canonical =
     lacks_bits law (wide_pieces p) types words f is row test h.bits at tried h.has (stamp_more_bits f.tokens.items row stamped h.bits h.stamps stamp)
-    (λ parts typed place kind word variable slot there l has.
-    may_listed f types words (wide_pieces p) is brought h.bits (numbers_of_row types row) each l.at l.slot l.is kind l.same_kind
-    (subst (λ (k : Kind). Has h.bits (may_by k l.slot.bits brought)) l.same_kind (h.slots l.at l.slot l.from l.to l.is)) word variable
-    (λ w. row_number types row parts typed place word (subst (λ (k : Kind). slice_get (kinds_in false (type_text (map symbol_of parts))) place ≡ Some k) w slot) there) has l.covers)
+    (λ parts typed place kind word variable slot there has.
+    may_sum f types words (wide_pieces p) is test.sums test.has brought h.bits (numbers_of_row types row) each h.has h.numbers h.words kind
+    ((is.asks.tests row.log_type (type_text (map symbol_of parts)) test typed at).sums_are tried place kind slot) word variable
+    (λ w. row_number types row parts typed place word (subst (λ (k : Kind). slice_get (kinds_in false (type_text (map symbol_of parts))) place ≡ Some k) w slot) there) has)
     h.lacks version message canonical
   where
     stamp_more_bits : (tokens : List Token) (row : Row) (few bits : ℕ) → Has bits few → ((s : List ℕ) → HasStampText row.pattern row.moment s → StampMarks tokens s few)

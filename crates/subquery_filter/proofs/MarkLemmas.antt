@@ -13,7 +13,6 @@ use Rattle.wild_match.proofs.Occurring.{Match-run, stands}
 use Rattle.query_plan.specs.Needs.{around}
 use Rattle.query_plan.specs.Pieces.{bytes}
 use Rattle.subquery_filter.specs.declared.marks.WordMarks.{WordMarks}
-use Rattle.subquery_filter.specs.declared.slots.Slot.{Slot}
 use Rattle.subquery_filter.specs.declared.slots.TypeTest.{TypeTest}
 use Rattle.subquery_filter.specs.declared.token.Token.{Token}
 use Rattle.subquery_filter.specs.declared.verdicts.Verdict.{Verdict}
@@ -221,25 +220,26 @@ pub filters_ok : {E : Type 0} (ps : List Piece) (types : List (List ℕ)) (old f
 filters_ok ps types old f (Ok g) told goes = λ words is. told ps types words (goes words is)
 filters_ok ps types old f (Err e) told goes = tt
 
-lacks_again : (f g : Filter) (test : TypeTest) (brought : ℕ) → f.slots.items ≡ g.slots.items → f.wanted ≡ g.wanted → f.stamped ≡ g.stamped → LacksAll f test f.stamped brought → LacksAll g test g.stamped brought
-lacks_again f g test brought slots wanted stamped h = record {
+lacks_again : (f g : Filter) (test : TypeTest) (brought : ℕ) → f.wanted ≡ g.wanted → f.stamped ≡ g.stamped → LacksAll f test f.stamped brought → LacksAll g test g.stamped brought
+lacks_again f g test brought wanted stamped h = record {
   bits = h.bits;
   has = h.has;
-  slots = λ at slot from to there. h.slots at slot from to (subst (λ (l : List Slot). slice_get l at ≡ Some slot) (sym slots) there);
+  numbers = h.numbers;
+  words = h.words;
   stamps = subst (Has h.bits) stamped h.stamps;
   lacks = λ has. h.lacks (subst (Has h.bits) (sym wanted) has);
 }
 
 -- what is told of the log types by one filter is told by another with the same tests and slots
-pub told_again : (f g : Filter) (verdicts : List Verdict) → f.slots.items ≡ g.slots.items → f.wanted ≡ g.wanted → f.stamped ≡ g.stamped → f.brought ≡ g.brought → f.tests.items ≡ g.tests.items → f.alone.items ≡ g.alone.items → f.run_stamped ≡ g.run_stamped
+pub told_again : (f g : Filter) (verdicts : List Verdict) → f.wanted ≡ g.wanted → f.stamped ≡ g.stamped → f.brought ≡ g.brought → f.tests.items ≡ g.tests.items → f.alone.items ≡ g.alone.items → f.run_stamped ≡ g.run_stamped
     → AreTold f verdicts → AreTold g verdicts
-told_again f g verdicts slots wanted stamped brought tests alone runs told t v at =
+told_again f g verdicts wanted stamped brought tests alone runs told t v at =
     let (test, there, how) = told t v at in (
       test,
       subst (λ (l : List TypeTest). slice_get l t ≡ Some test) tests there,
       elim how [
         | inl same ↦ inl same
-        | inr (never, inl (tried, h)) ↦ inr (never, inl (tried, subst (LacksAll g test g.stamped) brought (lacks_again f g test f.brought slots wanted stamped h)))
+        | inr (never, inl (tried, h)) ↦ inr (never, inl (tried, subst (LacksAll g test g.stamped) brought (lacks_again f g test f.brought wanted stamped h)))
         | inr (never, inr lacks) ↦ inr (never, inr (λ has. lacks (subst (λ (l : List ℕ). Has f.run_stamped (slice_index_or l t 0)) (sym alone) (subst (λ (n : ℕ). Has n (slice_index_or g.alone.items t 0)) (sym runs) has))))
       ],
     )

@@ -13,10 +13,11 @@ use Rattle.logtype_text.proofs.TextLemmas.{byte_symbol, plain_symbol, symbol_lon
 use Rattle.subquery_filter.specs.declared.filter.Filter.{Filter}
 use Rattle.subquery_filter.specs.declared.slots.KindBits.{KindBits}
 use Rattle.subquery_filter.specs.declared.slots.Slot.{Slot}
+use Rattle.subquery_filter.specs.declared.slots.Sums.{Sums}
 use Rattle.subquery_filter.specs.declared.slots.TypeTest.{TypeTest}
 use Rattle.subquery_filter.specs.declared.token.Token.{Token}
-use Rattle.subquery_filter.specs.Filter.{AreCoded, AreKindBits, AreMarks, AreNumberBits, AreSlots, AreStamps, Covers, Finds, Has, IsSlot, StampMarks, MarksVariable, TellsSmall, marks_at, slot_may}
-use Rattle.subquery_filter.specs.StepsFilter.{Lacks, ListedUpTo, SlotGives, SlotIs, Stays}
+use Rattle.subquery_filter.specs.Filter.{AreCoded, AreKindBits, AreMarks, AreNumberBits, AreSlots, AreStamps, AreSums, Covers, Finds, Has, IsSlot, StampMarks, MarksVariable, TellsSmall, marks_at, sum_at}
+use Rattle.subquery_filter.specs.StepsFilter.{AreSummed, Brings, BringsWords, GivesAny, Lacks, ListedUpTo, SlotGives, SlotIs, Stays}
 use Rattle.subquery_filter.specs.StepsLetters.{kind_at, kind_before, kinds_in}
 use Rattle.subquery_filter.proofs.BitLemmas.{has_and, has_left, has_right, has_self, has_through}
 use Rattle.subquery_filter.proofs.FilterLemmas.{push_got, push_last, slot_stays}
@@ -188,28 +189,118 @@ word_brings f slot all kind more word words variable marks brought small numbers
 pub own_brings : (f : Filter) (slot : Slot) (all : ℕ) → Has all slot.bits → (word : ℕ) → SlotGives f slot word all
 own_brings f slot all more word words variable marks brought small numbers coded is j d lt m own = has_through all slot.bits _ more own
 
--- ---- what a segment may bring by its slots
+-- ---- what a row brings by its words, whatever slots they are in
 
-abbrev pub MayBefore : Filter → ℕ → ℕ → ℕ → ℕ → Type 0
-MayBefore f first end brought bits = (at : ℕ) (slot : Slot) → first ≤ at → at < end → slice_get f.slots.items at ≡ Some slot → Has bits (slot_may slot brought)
+-- the bits are those of the text of this word, where it is a variable of a kind
+abbrev pub Told : Filter → Kind → ℕ → ℕ → Type 0
+Told f kind word bits =
+    (words : List (List ℕ)) (variable : List ℕ) → (kind ≡ Word → AreMarks f.tokens.items words f.marks) → TellsSmall f.tokens.items f.small → AreCoded f.tokens.items → HasWord words kind variable word
+    → MarksVariable f.tokens.items variable bits
 
-pub may_step : (f : Filter) (first end brought bits more : ℕ) → ((slot : Slot) → slice_get f.slots.items end ≡ Some slot → more ≡ slot_may slot brought)
-    → MayBefore f first end brought bits → MayBefore f first (end + 1) brought (bit_or bits more)
-may_step f first end brought bits more here before at slot from to there = elim (cases_lt at end) [
-  | inl less ↦ has_left bits more (slot_may slot brought) (before at slot from less there)
+gives_told : (f : Filter) (kind : Kind) (word bits all : ℕ) → Told f kind word bits → Has all bits → (slot : Slot) → slot.kind ≡ kind → SlotGives f slot word all
+gives_told f kind word bits all told more slot same words variable marks brought small numbers coded is j d lt m own =
+    has_through all bits _ more (told words variable (λ e. marks (same ∙ e)) small coded (subst (λ (k : Kind). HasWord words k variable word) same is) j d lt m)
+
+-- a number brings no more than numbers may
+gives_number : (f : Filter) (kind : Kind) (word all : ℕ) → Has all f.numbers → kind ≢ Word → (slot : Slot) → slot.kind ≡ kind → SlotGives f slot word all
+gives_number f kind word all more other slot same words variable marks brought small numbers coded is j d lt m own =
+    has_through all f.numbers _ more (numbers kind other words variable word (subst (λ (k : Kind). HasWord words k variable word) same is) j d lt m)
+
+one_word : (row : List ℕ) (place mine word : ℕ) → Some mine ≡ slice_get row place → slice_get row place ≡ Some word → mine ≡ word
+one_word row place mine word got there = let e : Some mine ≡ Some word = got ∙ there in cc (e)
+
+pub gives_any : (f : Filter) (row : List ℕ) (place word all by_word by_whole by_decimal : ℕ) → Some word ≡ slice_get row place → Told f Word word by_word → Told f Whole word by_whole → Told f Decimal word by_decimal
+    → Has all by_word → Has all by_whole → Has all by_decimal → GivesAny f row place all
+gives_any f row place word all by_word by_whole by_decimal got words wholes decimals one two three other there slot =
+    subst (λ (n : ℕ). SlotGives f slot n all) (one_word row place word other got there) (by_kind slot.kind refl)
+  where
+    by_kind : (kind : Kind) → slot.kind ≡ kind → SlotGives f slot word all
+    by_kind Word same = gives_told f Word word by_word all words one slot same
+    by_kind Whole same = gives_told f Whole word by_whole all wholes two slot same
+    by_kind Decimal same = gives_told f Decimal word by_decimal all decimals three slot same
+
+pub gives_word : (f : Filter) (row : List ℕ) (place word all by_word : ℕ) → Some word ≡ slice_get row place → Told f Word word by_word → Has all by_word → Has all f.numbers → GivesAny f row place all
+gives_word f row place word all by_word got words one by_numbers other there slot =
+    subst (λ (n : ℕ). SlotGives f slot n all) (one_word row place word other got there) (by_kind slot.kind refl)
+  where
+    by_kind : (kind : Kind) → slot.kind ≡ kind → SlotGives f slot word all
+    by_kind Word same = gives_told f Word word by_word all words one slot same
+    by_kind Whole same = gives_number f Whole word all by_numbers (λ e. cc (e)) slot same
+    by_kind Decimal same = gives_number f Decimal word all by_numbers (λ e. cc (e)) slot same
+
+any_more : (f : Filter) (row : List ℕ) (place bits more : ℕ) → Has more bits → GivesAny f row place bits → GivesAny f row place more
+any_more f row place bits more has gives word there slot = gives_more f slot word bits more has (gives word there slot)
+
+-- the words of a row up to a place
+abbrev pub GivenBefore : Filter → List ℕ → ℕ → ℕ → Type 0
+GivenBefore f row end bits = (place : ℕ) → place < end → GivesAny f row place bits
+
+pub given_step : (f : Filter) (row : List ℕ) (end bits more : ℕ) → Has (bit_or bits more) bits → GivesAny f row end (bit_or bits more) → GivenBefore f row end bits → GivenBefore f row (end + 1) (bit_or bits more)
+given_step f row end bits more has here before place to = elim (cases_lt place end) [
+  | inl less ↦ any_more f row place bits (bit_or bits more) has (before place less)
+  | inr past ↦ subst (λ n. GivesAny f row n (bit_or bits more)) (omega (arith, to, past)) here
+]
+
+pub brings_more : (f : Filter) (test : TypeTest) (row : List ℕ) (bits more : ℕ) → Has more bits → Brings f test row bits → Brings f test row more
+brings_more f test row bits more has b = record {
+  slots = λ listed at from to. is_more f at row bits more has (b.slots listed at from to);
+  unlisted = λ left place. any_more f row place bits more has (b.unlisted left place);
+}
+
+-- ---- what slots may bring in sum
+
+abbrev pub with_words : Sums → ℕ → Sums
+with_words sums bits = record { numbers = sums.numbers; words = bit_or sums.words bits }
+
+abbrev pub with_numbers : Sums → ℕ → Sums
+with_numbers sums bits = record { numbers = bit_or sums.numbers bits; words = sums.words }
+
+pub words_more : (sums : Sums) (bits : ℕ) (kind : Kind) → Has (sum_at kind (with_words sums bits)) (sum_at kind sums)
+words_more sums bits Whole = has_self sums.numbers
+words_more sums bits Decimal = has_self sums.numbers
+words_more sums bits Word = has_left sums.words bits sums.words (has_self sums.words)
+
+pub numbers_more : (sums : Sums) (bits : ℕ) (kind : Kind) → Has (sum_at kind (with_numbers sums bits)) (sum_at kind sums)
+numbers_more sums bits Whole = has_left sums.numbers bits sums.numbers (has_self sums.numbers)
+numbers_more sums bits Decimal = has_left sums.numbers bits sums.numbers (has_self sums.numbers)
+numbers_more sums bits Word = has_self sums.words
+
+pub words_summed : (sums : Sums) (bits : ℕ) (kind : Kind) → kind ≡ Word → Has (sum_at kind (with_words sums bits)) bits
+words_summed sums bits kind is = subst (λ (k : Kind). Has (sum_at k (with_words sums bits)) bits) (sym is) (has_right sums.words bits)
+
+pub numbers_summed : (sums : Sums) (bits : ℕ) (kind : Kind) → kind ≢ Word → Has (sum_at kind (with_numbers sums bits)) bits
+numbers_summed sums bits Whole other = has_right sums.numbers bits
+numbers_summed sums bits Decimal other = has_right sums.numbers bits
+numbers_summed sums bits Word other = absurd (other refl)
+
+pub summed_step : (slots : List Slot) (first end : ℕ) (old new : Sums) (slot : Slot) → slice_get slots end ≡ Some slot → ((kind : Kind) → Has (sum_at kind new) (sum_at kind old)) → Has (sum_at slot.kind new) slot.bits
+    → AreSummed slots first end old → AreSummed slots first (end + 1) new
+summed_step slots first end old new slot is more here before at other from to there = elim (cases_lt at end) [
+  | inl less ↦ has_through (sum_at other.kind new) (sum_at other.kind old) other.bits (more other.kind) (before at other from less there)
   | inr past ↦
-      let e : at ≡ end = omega (arith, to, past) in
-      subst (Has (bit_or bits more)) (here slot (subst (λ n. slice_get f.slots.items n ≡ Some slot) e there)) (has_right bits more)
+      let e : end ≡ at = omega (arith, to, past) in
+      let same : slot ≡ other = same_slots (slice_get slots at) slot other (subst (λ n. slice_get slots n ≡ Some slot) e is) there in
+      subst (λ (x : Slot). Has (sum_at x.kind new) x.bits) same here
+]
+
+-- so no slot of the log type brings more
+pub sums_listed : (tokens : List Token) (text : List ℕ) (slots : List Slot) (first end known : ℕ) (sums : Sums) → AreSlots tokens text slots first end known → AreSummed slots first end sums → AreSums tokens text known sums
+sums_listed tokens text slots first end known sums are summed place kind at = elim (are place kind at) [
+  | inl l ↦ λ words variable word is j d lt m.
+      let all : ℕ = bit_or known (sum_at kind sums) in
+      let own : Has (sum_at kind sums) l.slot.bits = subst (λ (k : Kind). Has (sum_at k sums) l.slot.bits) l.same_kind (summed l.at l.slot l.from l.to l.is) in
+      has_through all l.slot.bits _ (has_through all (sum_at kind sums) l.slot.bits (has_right known (sum_at kind sums)) own) (l.covers words variable word is j d lt m)
+  | inr covers ↦ λ words variable word is j d lt m. has_left known (sum_at kind sums) _ (covers words variable word is j d lt m)
 ]
 
 -- ---- what a row lacks
 
-pub lacks_by : (f : Filter) (test : TypeTest) (row : Row) (bits all : ℕ) → Has bits test.has → ((at : ℕ) → test.first ≤ at → at < test.end → SlotIs f at row.words bits) → Has all bits
+pub lacks_by : (f : Filter) (test : TypeTest) (row : Row) (bits all : ℕ) → Has bits test.has → Brings f test row.words bits → Has all bits
     → (AreStamps f.tokens.items f.stamps.items → (s : List ℕ) → HasStampText row.pattern row.moment s → StampMarks f.tokens.items s all) → ¬ Has all f.wanted → Lacks f test row
-lacks_by f test row bits all has slots more stamp lacks = record {
+lacks_by f test row bits all has brings more stamp lacks = record {
   bits = all;
   has = has_through all bits test.has more has;
-  slots = λ at from to. is_more f at row.words bits all more (slots at from to);
+  brings = brings_more f test row.words bits all more brings;
   stamp = stamp;
   lacks = lacks;
 }
@@ -246,8 +337,7 @@ word_kind Whole = inr (λ e. cc (e))
 word_kind Decimal = inr (λ e. cc (e))
 
 pub lacks_numbers : (f : Filter) (test : TypeTest) (row : Row) (may bits : ℕ) → Has bits (bit_or (bit_or test.has f.numbers) may)
-    → ((at : ℕ) → test.first ≤ at → at < test.end → (slot : Slot) → slice_get f.slots.items at ≡ Some slot → slot.kind ≡ Word → SlotIs f at row.words bits)
-    → may ≡ slice_index_or f.stamps.items row.pattern 0 → ¬ Has bits f.wanted → Lacks f test row
+    → BringsWords f test row.words bits → may ≡ slice_index_or f.stamps.items row.pattern 0 → ¬ Has bits f.wanted → Lacks f test row
 lacks_numbers f test row may bits more dictionary may_is lacks =
     let others : ℕ = bit_or test.has f.numbers in
     let own : Has bits others = has_through bits (bit_or others may) others more (has_left others may others (has_self others)) in
@@ -257,8 +347,12 @@ lacks_numbers f test row may bits more dictionary may_is lacks =
     record {
       bits = bits;
       has = known;
-      slots = λ at from to slot word there here words variable marks brought small numbers coded is j d lt m own.
-          by_kind by_numbers slot words variable word (slice_index_or f.tokens.items j d).bit numbers is (λ w. dictionary at from to slot there w slot word there here words variable marks brought small numbers coded is j d lt m own) j d lt m refl;
+      brings = record {
+        slots = λ listed at from to slot word there here words variable marks brought small numbers coded is j d lt m own.
+            by_kind by_numbers slot words variable word (slice_index_or f.tokens.items j d).bit numbers is
+            (λ w. dictionary.slots listed at from to slot there w slot word there here words variable marks brought small numbers coded is j d lt m own) j d lt m refl;
+        unlisted = dictionary.unlisted;
+      };
       stamp = λ stamps s stamped j d lt lies.
           has_through bits may (slice_index_or f.tokens.items j d).bit by_stamp (subst (λ (n : ℕ). StampMarks f.tokens.items s n) (sym may_is) (stamps row.pattern row.moment s stamped) j d lt lies);
       lacks = lacks;
@@ -277,3 +371,11 @@ number_bits tokens kinds are Word other words variable word is j d lt finds = ab
 number_bits tokens kinds are Whole other words variable word is j d lt finds = has_left kinds.whole kinds.decimal _ (are.whole words variable word is j d lt finds)
 number_bits tokens kinds are Decimal other words variable word is j d lt finds =
     has_through (bit_or kinds.whole kinds.decimal) kinds.decimal _ (has_right kinds.whole kinds.decimal) (are.decimal words variable word is j d lt finds)
+
+abbrev pub sums_by : KindBits → Sums
+sums_by kinds = record { numbers = bit_or kinds.whole kinds.decimal; words = kinds.word }
+
+pub kinds_summed : (tokens : List Token) (kinds : KindBits) → AreKindBits tokens kinds → (kind : Kind) → Covers tokens kind (sum_at kind (sums_by kinds))
+kinds_summed tokens kinds are Word = are.word
+kinds_summed tokens kinds are Whole = number_bits tokens kinds are Whole (λ e. cc (e))
+kinds_summed tokens kinds are Decimal = number_bits tokens kinds are Decimal (λ e. cc (e))

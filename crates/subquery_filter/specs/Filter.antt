@@ -20,8 +20,8 @@ use Rattle.query_plan.specs.Pieces.{IsCut, flat}
 use Rattle.subquery_filter.specs.declared.run.Run.{Run}
 use Rattle.subquery_filter.specs.declared.filter.Filter.{Filter}
 use Rattle.subquery_filter.specs.declared.marks.WordMarks.{WordMarks}
-use Rattle.subquery_filter.specs.declared.slots.Beside.{Beside}
 use Rattle.subquery_filter.specs.declared.slots.Slot.{Slot}
+use Rattle.subquery_filter.specs.declared.slots.Sums.{Sums}
 use Rattle.subquery_filter.specs.declared.slots.KindBits.{KindBits}
 use Rattle.subquery_filter.specs.declared.slots.TypeTest.{TypeTest}
 use Rattle.subquery_filter.specs.declared.small.SmallNumbers.{SmallNumbers}
@@ -139,19 +139,21 @@ AreRunStamps runs stamps =
 
 -- ---- what is known of a log type
 
--- no row of a log type with this text brings all that is wanted, whatever its slots are
-pub record LacksText (tokens : List Token) (beside : Beside) (text : List ℕ) : Type 0 where
-  pub bits : ℕ
-  pub gives : Gives tokens text bits
-  pub has : Has bits beside.others
-  pub lacks : ¬ Has bits beside.wanted
+-- the token at a place does not stand among the constant bytes of a log type with this text, and its bit is not among
+-- those that rows may bring in other ways
+pub record LacksText (tokens : List Token) (others : ℕ) (text : List ℕ) : Type 0 where
+  pub place : ℕ
+  pub token : Token
+  pub is : slice_get tokens place ≡ Some token
+  pub lacks : IsTypeText text → ¬ StandsInType token.matcher.items text
+  pub left : ¬ Has others token.bit
 
 -- the verdict is right of the log types with this text
-abbrev pub IsRight : List Piece → List Token → Beside → List ℕ → Verdict → Type 0
-IsRight ps tokens beside text Rejected =
-    ((parts : List Part) → text ≡ type_text (map symbol_of parts) → IsRejected ps parts) ⊎ LacksText tokens beside text
-IsRight ps tokens beside text Certain = (parts : List Part) → text ≡ type_text (map symbol_of parts) → IsCertain ps parts
-IsRight ps tokens beside text Tried = Unit {0}
+abbrev pub IsRight : List Piece → List Token → ℕ → List ℕ → Verdict → Type 0
+IsRight ps tokens others text Rejected =
+    ((parts : List Part) → text ≡ type_text (map symbol_of parts) → IsRejected ps parts) ⊎ LacksText tokens others text
+IsRight ps tokens others text Certain = (parts : List Part) → text ≡ type_text (map symbol_of parts) → IsCertain ps parts
+IsRight ps tokens others text Tried = Unit {0}
 
 -- a slot of this place and kind is listed between the two, with all bits that it may bring
 pub record IsListed (tokens : List Token) (slots : List Slot) (first end place : ℕ) (kind : Kind) : Type 0 where
@@ -173,37 +175,39 @@ abbrev pub AreSlots : List Token → List ℕ → List Slot → ℕ → ℕ → 
 AreSlots tokens text slots first end known =
     (place : ℕ) (kind : Kind) → slice_get (kinds_in false text) place ≡ Some kind → IsSlot tokens slots first end known place kind
 
+-- the bits that slots of a kind may bring in sum
+abbrev pub sum_at : Kind → Sums → ℕ
+sum_at Whole sums = sums.numbers
+sum_at Decimal sums = sums.numbers
+sum_at Word sums = sums.words
+
+-- no slot of the log type brings a bit beyond those that are known and those in sum
+abbrev pub AreSums : List Token → List ℕ → ℕ → Sums → Type 0
+AreSums tokens text known sums =
+    (place : ℕ) (kind : Kind) → slice_get (kinds_in false text) place ≡ Some kind → Covers tokens kind (bit_or known (sum_at kind sums))
+
 -- what is known of the log types with this text: the rest matters where the verdict leaves it open
-pub record IsTest (ps : List Piece) (tokens : List Token) (beside : Beside) (slots : List Slot) (text : List ℕ) (test : TypeTest) : Type 0 where
-  pub right : IsRight ps tokens beside text test.verdict
+pub record IsTest (ps : List Piece) (tokens : List Token) (others : ℕ) (slots : List Slot) (text : List ℕ) (test : TypeTest) : Type 0 where
+  pub right : IsRight ps tokens others text test.verdict
   pub gives : test.verdict ≡ Tried → Gives tokens text test.has
-  pub slots_are : test.verdict ≡ Tried → AreSlots tokens text slots test.first test.end test.has
+  pub slots_are : test.verdict ≡ Tried → test.listed ≡ true → AreSlots tokens text slots test.first test.end test.has
+  pub sums_are : test.verdict ≡ Tried → AreSums tokens text test.has test.sums
 
 -- what is known of each log type is right
-abbrev pub AreTests : List Piece → List Token → Beside → List (List ℕ) → List Slot → List TypeTest → Type 0
-AreTests ps tokens beside types slots tests =
+abbrev pub AreTests : List Piece → List Token → ℕ → List (List ℕ) → List Slot → List TypeTest → Type 0
+AreTests ps tokens others types slots tests =
     (t : ℕ) (text : List ℕ) (test : TypeTest) → slice_get types t ≡ Some text → slice_get tests t ≡ Some test
-    → IsTest ps tokens beside slots text test
+    → IsTest ps tokens others slots text test
 
 -- ---- what rows of a log type may bring
-
--- what a slot may bring where the words bring these bits
-abbrev pub may_by : Kind → ℕ → ℕ → ℕ
-may_by Whole own brought = own
-may_by Decimal own brought = own
-may_by Word own brought = brought
-
-abbrev pub slot_may : Slot → ℕ → ℕ
-slot_may slot brought = may_by slot.kind slot.bits brought
 
 -- no row of a log type of which this is known brings all that is wanted, where the stamps and the words bring
 -- these bits
 pub record LacksAll (f : Filter) (test : TypeTest) (stamped brought : ℕ) : Type 0 where
   pub bits : ℕ
   pub has : Has bits test.has
-  pub slots :
-      (at : ℕ) (slot : Slot) → test.first ≤ at → at < test.end → slice_get f.slots.items at ≡ Some slot
-      → Has bits (slot_may slot brought)
+  pub numbers : Has bits test.sums.numbers
+  pub words : Has bits (bit_and test.sums.words brought)
   pub stamps : Has bits stamped
   pub lacks : ¬ Has bits f.wanted
 
@@ -235,9 +239,9 @@ pub record IsAsked (ps : List Piece) (k : Token) : Type 0 where
 abbrev pub AreTexts : List Token → List (List ℕ) → Type 0
 AreTexts tokens texts = (j : ℕ) (k : Token) → slice_get tokens j ≡ Some k → slice_get texts j ≡ Some k.text
 
--- which bits are wanted, and which ones rows may bring beside the constant bytes of their log types
-abbrev pub beside_of : Filter → Beside
-beside_of f = record { wanted = f.wanted; others = bit_or (bit_or f.stamped f.numbers) f.brought }
+-- the bits that rows may bring beside the constant bytes of their log types
+abbrev pub others_of : Filter → ℕ
+others_of f = bit_or (bit_or f.stamped f.numbers) f.brought
 
 -- The filter is one of the pattern with these pieces, over an archive with these log types. Its needles are the texts
 -- of all tokens.
@@ -245,7 +249,7 @@ pub record AsksTypes (ps : List Piece) (types : List (List ℕ)) (f : Filter) : 
   pub cut : IsCut ps
   pub are : All (IsAsked ps) f.tokens.items
   pub wanted : IsWanted f.tokens.items f.wanted
-  pub tests : AreTests ps f.tokens.items (beside_of f) types f.slots.items f.tests.items
+  pub tests : AreTests ps f.tokens.items (others_of f) types f.slots.items f.tests.items
   pub needles : AreTexts f.tokens.items f.needles.items
   pub told : AreTold f f.verdicts.items
   pub brought : (n : ℕ) → Has f.brought (marks_at f.marks n)

@@ -1,5 +1,5 @@
 -- What the parts of a filter tell each other.
-use Rattle.std.specs.Prelude.{◌≡◌, ◌≢◌, ◌⊎◌, ◌+◌, ◌++◌, ◌<◌, ◌≤◌, ℕ, ℤ, false, List, [], All, None, Some, bit_and, drop, length, slice_get, slice_index_or}
+use Rattle.std.specs.Prelude.{◌≡◌, ◌≢◌, ◌⊎◌, ◌+◌, ◌++◌, ◌<◌, ◌≤◌, ℕ, ℤ, false, true, List, [], All, None, Some, bit_and, drop, length, slice_get, slice_index_or}
 use Rattle.std.specs.List.{Contains}
 use Rattle.std.specs.Fmt.{signed_decimal}
 use Rattle.std.specs.Int.{cast_signed, w64}
@@ -16,10 +16,11 @@ use Rattle.subquery_filter.specs.declared.filter.Filter.{Filter}
 use Rattle.subquery_filter.specs.declared.marks.WordMarks.{WordMarks}
 use Rattle.subquery_filter.specs.declared.slots.KindBits.{KindBits}
 use Rattle.subquery_filter.specs.declared.slots.Slot.{Slot}
+use Rattle.subquery_filter.specs.declared.slots.Sums.{Sums}
 use Rattle.subquery_filter.specs.declared.slots.TypeTest.{TypeTest}
 use Rattle.subquery_filter.specs.declared.token.Token.{Token}
 use Rattle.subquery_filter.specs.declared.verdicts.Verdict.TheVariants.{Rejected, Tried}
-use Rattle.subquery_filter.specs.Filter.{AreCoded, AreKindBits, AreMarks, AreNumberBits, AreRunStamps, AreStamps, Finds, Has, IsAsked, IsSlot, IsWithin, LacksAll, LacksRuns, RunMarks, StampMarks, TellsSmall, marks_at}
+use Rattle.subquery_filter.specs.Filter.{AreCoded, AreKindBits, AreMarks, AreNumberBits, AreRunStamps, AreStamps, Finds, Has, IsAsked, IsSlot, IsWithin, LacksAll, LacksRuns, RunMarks, StampMarks, TellsSmall, marks_at, sum_at}
 use Rattle.subquery_filter.specs.StepsLetters.{kinds_in}
 use Rattle.subquery_filter.specs.Tokens.{IsClosed}
 
@@ -51,6 +52,11 @@ HasLists table mask tokens lists =
 -- the slots so far stay where they are
 abbrev pub Stays : List Slot → List Slot → Type 0
 Stays old new = (at : ℕ) (slot : Slot) → slice_get old at ≡ Some slot → slice_get new at ≡ Some slot
+
+-- the slots that are listed between the two bring no more than this in sum
+abbrev pub AreSummed : List Slot → ℕ → ℕ → Sums → Type 0
+AreSummed slots first end sums =
+    (at : ℕ) (slot : Slot) → first ≤ at → at < end → slice_get slots at ≡ Some slot → Has (sum_at slot.kind sums) slot.bits
 
 -- The slots are listed up to a place of the log type's text, of which this is left.
 pub record ListedUpTo (bits : KindBits) (text rest : List ℕ) (place first known : ℕ) (slots : List Slot) : Type 0 where
@@ -84,11 +90,27 @@ SlotIs f at row bits =
     (slot : Slot) (word : ℕ) → slice_get f.slots.items at ≡ Some slot → slice_get row slot.place ≡ Some word
     → SlotGives f slot word bits
 
+-- so it is of the word at this place of a row, whatever slot it is in
+abbrev pub GivesAny : Filter → List ℕ → ℕ → ℕ → Type 0
+GivesAny f row place bits = (word : ℕ) → slice_get row place ≡ Some word → (slot : Slot) → SlotGives f slot word bits
+
+-- the row brings no more by its variables: by its slots that are listed, and by all of its words where none is
+pub record Brings (f : Filter) (test : TypeTest) (row : List ℕ) (bits : ℕ) : Type 0 where
+  pub slots : test.listed ≡ true → (at : ℕ) → test.first ≤ at → at < test.end → SlotIs f at row bits
+  pub unlisted : test.listed ≡ false → (place : ℕ) → GivesAny f row place bits
+
+-- and by its words, where it brings what numbers may bring
+pub record BringsWords (f : Filter) (test : TypeTest) (row : List ℕ) (bits : ℕ) : Type 0 where
+  pub slots :
+      test.listed ≡ true → (at : ℕ) → test.first ≤ at → at < test.end → (slot : Slot)
+      → slice_get f.slots.items at ≡ Some slot → slot.kind ≡ Word → SlotIs f at row bits
+  pub unlisted : test.listed ≡ false → (place : ℕ) → GivesAny f row place bits
+
 -- the row brings no more than these bits, which are not all that are wanted
 pub record Lacks (f : Filter) (test : TypeTest) (row : Row) : Type 0 where
   pub bits : ℕ
   pub has : Has bits test.has
-  pub slots : (at : ℕ) → test.first ≤ at → at < test.end → SlotIs f at row.words bits
+  pub brings : Brings f test row.words bits
   pub stamp :
       AreStamps f.tokens.items f.stamps.items → (s : List ℕ) → HasStampText row.pattern row.moment s
       → StampMarks f.tokens.items s bits

@@ -10,11 +10,11 @@ ghost use Rattle.query_plan.specs.Pieces.{wide_pieces};
 ghost use Rattle.query_plan.specs.declared.pieces.Piece.{Piece};
 ghost use Rattle.subquery_filter.specs.declared.filter.Filter.{Filter};
 ghost use Rattle.subquery_filter.specs.declared.slots.Slot.{Slot};
-ghost use Rattle.subquery_filter.specs.Filter.{AreCoded, AreMarks, AreStamps, AreTold, AsksTypes, Has, HasNoMatch, IsFilter, IsRowVerdict, IsTold, LacksAll, MarksVariable, StampMarks, TellsSmall, beside_of, slot_may};
+ghost use Rattle.subquery_filter.specs.Filter.{AreCoded, AreMarks, AreStamps, AreTold, AsksTypes, Has, HasNoMatch, IsFilter, IsRowVerdict, IsTold, LacksAll, MarksVariable, StampMarks, TellsSmall, others_of};
 ghost use Rattle.subquery_filter.specs.declared.verdicts.Verdict.TheVariants.{Certain};
 ghost use Rattle.subquery_filter.specs.Found.{HaveAll};
 ghost use Rattle.subquery_filter.specs.Page.{IsPage};
-ghost use Rattle.subquery_filter.specs.StepsFilter.{HasEach, IsShut, Lacks, LacksStamp, LacksTokens, RunsBring, SlotGives, SlotIs, StampsBring};
+ghost use Rattle.subquery_filter.specs.StepsFilter.{Brings, BringsWords, GivesAny, HasEach, IsShut, Lacks, LacksStamp, LacksTokens, RunsBring, SlotGives, SlotIs, StampsBring};
 
 use crate::alone::{run_bits, runs_of};
 use crate::bits::{any_of, has, mark_at};
@@ -22,10 +22,11 @@ use crate::laws::{rows_bring_chunks, rows_bring_runs, verdicts_hold};
 use crate::marks::WordMarks;
 use crate::needles::{lists_with, texts_of};
 use crate::numbers::{decimal_bits, kind_bits, whole_bits};
+use crate::rare::longest_rare;
 use crate::run::Run;
 use crate::run_stamps::{mark_runs, runs_within, stamp_runs};
 use crate::shared::PageTests;
-use crate::slots::{Beside, Question, Slot, TypeTest, test_types};
+use crate::slots::{Question, Slot, TypeTest, test_types};
 use crate::small::{SmallNumbers, small_needed};
 use crate::stamps::{bits_within, mark_stamps, stamp_bits};
 use crate::token::Token;
@@ -227,14 +228,11 @@ impl Filter {
         })
     }
 
-    /// Which bits a row has to bring, and which ones stamps, numbers and words may bring.
-    fn beside(&self) -> Beside
-        ensures { result ≡ beside_of self.now }
+    /// The bits that stamps, numbers and words may bring.
+    fn others(&self) -> u8
+        ensures { result ≡ others_of self.now }
     {
-        Beside {
-            wanted: self.wanted,
-            others: self.stamped | self.numbers | self.brought,
-        }
+        self.stamped | self.numbers | self.brought
     }
 
     /// Asks all log types of an archive, after its words: a log type is rejected without a look at
@@ -251,9 +249,11 @@ impl Filter {
         let looked = self.tokens.as_slice();
         let runs = self.runs.as_slice();
         let longest = longest_run(alloc, plan)?;
+        let others = self.others();
         let question = Question {
             kinds: kind_bits(looked),
-            beside: self.beside(),
+            others,
+            lead: longest_rare(looked, others),
             longest: Finder::new(longest.as_slice()),
             tokens: all_bits(looked),
             runs: run_bits(runs),
@@ -370,6 +370,48 @@ impl Filter {
         all
     }
 
+    /// The bits that a row brings by its word at a place, whatever slot it is in, beyond those that
+    /// it has.
+    #[inline]
+    fn any_bits(&self, words: &[u64], place: usize, bits: u8) -> u8
+        ensures { (all : ℕ) → Has all bits → Has all result
+            → GivesAny self.now words.now place all }
+    {
+        let Some(word) = word_at(words, place) else {
+            return 0;
+        };
+        let by_word = self.variable_bits(Kind::Word, word);
+        if has(bits, self.numbers) {
+            return by_word;
+        }
+        let by_whole = self.variable_bits(Kind::Whole, word);
+        by_word | by_whole | self.variable_bits(Kind::Decimal, word)
+    }
+
+    /// These bits, and those that a row brings by all its words, whatever slots they are in.
+    fn with_all(&self, words: &[u64], bits: u8) -> u8
+        ensures more { Has result bits }
+        ensures words { (place : ℕ) → GivesAny self.now words.now place result }
+    {
+        let mut all = bits;
+        for place in 0..words.len() {
+            all |= self.any_bits(words, place, all);
+        }
+        all
+    }
+
+    /// These bits, and those that a row of a log type brings by its variables.
+    #[inline]
+    fn with_variables(&self, test: &TypeTest, words: &[u64], bits: u8) -> u8
+        ensures more { Has result bits }
+        ensures brings { Brings self.now test.now words.now result }
+    {
+        if test.listed {
+            return self.with_slots(test, words, bits);
+        }
+        self.with_all(words, bits)
+    }
+
     /// The bits that a row brings by the slot that is listed at a place, where it is one of a word.
     #[inline]
     fn dictionary_bits(&self, at: usize, words: &[u64], bits: u8) -> u8
@@ -401,6 +443,19 @@ impl Filter {
         all
     }
 
+    /// These bits, among them those of numbers, and those that a row of a log type brings by its
+    /// words.
+    #[inline]
+    fn with_dictionary(&self, test: &TypeTest, words: &[u64], bits: u8) -> u8
+        ensures more { Has result bits }
+        ensures brings { BringsWords self.now test.now words.now result }
+    {
+        if test.listed {
+            return self.with_words(test, words, bits);
+        }
+        self.with_all(words, bits)
+    }
+
     /// Whether a row of a log type does not bring all tokens, whatever its numbers and its stamp
     /// are: so neither are looked at where a token stands in no word of it that only words may
     /// bring.
@@ -413,7 +468,7 @@ impl Filter {
         if has(others, self.wanted) {
             return false;
         }
-        let all = self.with_words(test, row.words, others);
+        let all = self.with_dictionary(test, row.words, others);
         !has(all, self.wanted)
     }
 
@@ -449,7 +504,7 @@ impl Filter {
         if self.lacks_words(test, row) {
             return true;
         }
-        let bits = self.with_slots(test, row.words, test.has);
+        let bits = self.with_variables(test, row.words, test.has);
         if has(bits, self.wanted) {
             return false;
         }
@@ -585,30 +640,14 @@ impl Filter {
         verdict
     }
 
-    /// The bits that the slot which is listed at a place may bring.
-    fn slot_may(&self, at: usize, brought: u8) -> u8
-        ensures { (slot : Slot) → slice_get self.now.slots.items at ≡ Some slot
-            → result ≡ slot_may slot brought }
-    {
-        let Some(slot) = self.slot_at(at) else {
-            return 0;
-        };
-        match slot.kind {
-            Kind::Word => brought,
-            Kind::Whole | Kind::Decimal => slot.bits,
-        }
-    }
-
     /// Whether no row of a log type brings all tokens, where the stamps and the words bring these
     /// bits.
     fn lacks_all(&self, test: &TypeTest, stamped: u8, brought: u8) -> bool
         ensures { IsTrue result → LacksAll self.now test.now stamped brought }
     {
-        let mut all = test.has | stamped;
-        for at in test.first..test.end {
-            all |= self.slot_may(at, brought);
-        }
-        !has(all, self.wanted)
+        let sums = test.sums;
+        let by_slots = sums.numbers | (sums.words & brought);
+        !has(test.has | stamped | by_slots, self.wanted)
     }
 
     /// Whether a row of a log type may match, whose stamp has these runs, and whose stamp and words

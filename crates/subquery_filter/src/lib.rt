@@ -17,6 +17,7 @@ mod marks;
 mod needles;
 mod number_text;
 mod numbers;
+mod rare;
 mod rejecting;
 mod rules;
 mod run;

@@ -1,19 +1,20 @@
 //! The slots of log types that may bring tokens.
-ghost use Rattle.std.specs.Prelude.{◌≡◌, ◌≢◌, ◌≤◌, ℕ, List, [], false, IfOk, IfSome, IsFalse, IsTrue, OnOk, Some, length, slice_get};
+ghost use Rattle.std.specs.Prelude.{◌≡◌, ◌≢◌, ◌<◌, ◌≤◌, ℕ, List, [], false, IfOk, IsFalse, IsTrue, OnOk, Some, length, slice_get};
 ghost use Rattle.query_plan.specs.declared.pieces.Piece.{Piece};
-ghost use Rattle.subquery_filter.specs.declared.slots.Beside.{Beside};
 ghost use Rattle.subquery_filter.specs.declared.token.Token.{Token};
-ghost use Rattle.subquery_filter.specs.Filter.{AreAlone, AreKindBits, AreSlots, AreTests, Covers, Gives, Has, IsAlone, IsSlot, IsTest};
-ghost use Rattle.subquery_filter.specs.StepsFilter.{HasAll, Stays};
+ghost use Rattle.logtype_text.specs.declared.symbols.Kind.{Kind};
+ghost use Rattle.subquery_filter.specs.Filter.{AreAlone, AreKindBits, AreSlots, AreTests, Covers, Gives, Has, IsAlone, IsRight, IsSlot, IsTest, LacksText, sum_at};
+ghost use Rattle.subquery_filter.specs.StepsFilter.{AreSummed, HasAll, Stays};
 ghost use Rattle.subquery_filter.specs.StepsLetters.{kinds_in};
 ghost use Rattle.subquery_filter.specs.declared.slots.Slot.{Slot};
 
 use crate::alone::alone_of;
 use crate::bits::has;
+use crate::rare::lacks_rare;
 use crate::run::Run;
 use crate::token::Token;
 use crate::tokens::gifts_of;
-use crate::verdicts::{Verdict, verdict_behind};
+use crate::verdicts::{Verdict, verdict_in_order};
 use logtype_text::{Kind, Symbol, first_symbol, plain_front};
 use memchr::memmem::Finder;
 use query_plan::Plan;
@@ -28,20 +29,16 @@ pub(crate) struct KindBits {
     pub(crate) word: u8,
 }
 
-/// Which bits a row has to bring, and which ones rows may bring beside the constant bytes of their
-/// log types: by stamps, by numbers and by words.
-#[derive(Clone, Copy, Debug)]
-pub(crate) struct Beside {
-    pub(crate) wanted: u8,
-    pub(crate) others: u8,
-}
-
 /// What each log type is asked.
 #[derive(Debug, Drop)]
 pub(crate) struct Question<'a> {
     /// The bits that each kind of variable may bring.
     pub(crate) kinds: KindBits,
-    pub(crate) beside: Beside,
+    /// The bits that rows may bring beside the constant bytes of their log types: by stamps, by
+    /// numbers and by words.
+    pub(crate) others: u8,
+    /// The place of the longest of the tokens that they may not bring so.
+    pub(crate) lead: usize,
     /// The longest run of bytes of the pattern, as log types store constant bytes. A log type of
     /// which the pattern matches each message has it.
     pub(crate) longest: Finder<'a>,
@@ -62,38 +59,34 @@ pub(crate) struct Slot {
     pub(crate) bits: u8,
 }
 
+/// The bits that slots which are listed may bring in sum, those of numbers and those of words.
+#[derive(Clone, Copy, Debug)]
+pub(crate) struct Sums {
+    pub(crate) numbers: u8,
+    pub(crate) words: u8,
+}
+
+/// Where so many slots are listed, none of a further log type is: its rows are told by all their
+/// words. The log types that most messages have come first.
+pub(crate) const MOST_SLOTS: usize = 1 << 16;
+
+/// No slot brings a bit.
+const NO_SUMS: Sums = Sums {
+    numbers: 0,
+    words: 0,
+};
+
 /// What is known of a log type: its verdict and, where that leaves it open, the bits of the tokens
-/// that its constant bytes bring, and where its slots are listed.
+/// that its constant bytes bring, those that its slots may bring, and where these are listed.
 #[derive(Clone, Copy, Debug)]
 pub(crate) struct TypeTest {
     pub(crate) verdict: Verdict,
     pub(crate) has: u8,
+    pub(crate) sums: Sums,
+    /// Whether its slots are listed.
+    pub(crate) listed: bool,
     pub(crate) first: usize,
     pub(crate) end: usize,
-}
-
-impl Beside {
-    /// Whether rows lack some bit that is wanted, where the constant bytes of their log type bring
-    /// these.
-    #[inline]
-    fn lacks(&self, known: u8) -> bool
-        ensures { IsTrue result → (n : ℕ) × Has n known × Has n self.now.others
-            × ¬ Has n self.now.wanted }
-    {
-        !has(known | self.others, self.wanted)
-    }
-
-    /// The same, where it is told what their constant bytes bring.
-    #[inline]
-    fn lacks_told(&self, told: Option<u8>) -> bool
-        ensures { IsTrue result → (known : ℕ) × (told ≡ Some known) × ((n : ℕ) × Has n known
-            × Has n self.now.others × ¬ Has n self.now.wanted) }
-    {
-        match told {
-            Some(known) => self.lacks(known),
-            None => false,
-        }
-    }
 }
 
 impl Question<'_> {
@@ -121,6 +114,37 @@ impl KindBits {
             Kind::Whole => self.whole,
             Kind::Decimal => self.decimal,
             Kind::Word => self.word,
+        }
+    }
+
+    /// What slots of all kinds may bring in sum.
+    fn sums(&self) -> Sums
+        ensures { (tokens : List Token) → AreKindBits tokens self.now
+            → (kind : Kind) → Covers tokens kind (sum_at kind result) }
+    {
+        Sums {
+            numbers: self.whole | self.decimal,
+            words: self.word,
+        }
+    }
+}
+
+impl Sums {
+    /// The same with a slot.
+    fn with(self, slot: Slot) -> Sums
+        ensures more { (kind : Kind) → Has (sum_at kind result) (sum_at kind self) }
+        ensures slot { Has (sum_at slot.kind result) slot.bits }
+    {
+        if slot.kind == Kind::Word {
+            Sums {
+                words: self.words | slot.bits,
+                ..self
+            }
+        } else {
+            Sums {
+                numbers: self.numbers | slot.bits,
+                ..self
+            }
         }
     }
 }
@@ -180,13 +204,34 @@ fn list_slots(
     Ok(())
 }
 
+/// The slot at a place.
+fn slot_here(slots: &[Slot], at: usize) -> Slot
+    requires { at < length slots.now }
+    ensures { slice_get slots.now at ≡ Some result }
+{
+    slots[at]
+}
+
+/// What the slots from a place on may bring in sum.
+fn sums_from(slots: &[Slot], first: usize) -> Sums
+    ensures { AreSummed slots.now first (length slots.now) result }
+{
+    let mut sums = NO_SUMS;
+    for at in first..slots.len() {
+        sums = sums.with(slot_here(slots, at));
+    }
+    sums
+}
+
 /// A log type of which nothing more is asked.
 fn closed_test(verdict: Verdict, first: usize) -> TypeTest
-    ensures { result ≡ record { verdict = verdict; has = 0; first = first; end = first } }
+    ensures { result.verdict ≡ verdict }
 {
     TypeTest {
         verdict,
         has: 0,
+        sums: NO_SUMS,
+        listed: true,
         first,
         end: first,
     }
@@ -195,53 +240,57 @@ fn closed_test(verdict: Verdict, first: usize) -> TypeTest
 /// A log type of whose rows stamps alone decide: it is taken to bring all tokens, and no slot is
 /// listed.
 fn passed_test(tokens: u8, first: usize) -> TypeTest
-    ensures { (plan : List Piece) (all : List Token) (beside : Beside) (slots : List Slot)
-        (text : List ℕ) → HasAll all tokens → IsTest plan all beside slots text result }
+    ensures { (plan : List Piece) (all : List Token) (others : ℕ) (slots : List Slot)
+        (text : List ℕ) → HasAll all tokens → IsTest plan all others slots text result }
 {
     TypeTest {
         verdict: Verdict::Tried,
         has: tokens,
+        sums: NO_SUMS,
+        listed: true,
         first,
         end: first,
     }
 }
 
-/// The bits of the tokens that the constant bytes of a log type bring, where these may reject it:
-/// none is looked for where rows may bring all tokens beside them.
-fn early_gifts(tokens: &[Token], beside: &Beside, text: &[u8]) -> Option<u8>
-    ensures { IfSome result (Gives tokens.now text.now) }
+/// A log type that brings these bits, and whose slots are not listed.
+fn unlisted_test(kinds: &KindBits, known: u8, first: usize) -> TypeTest
+    ensures { (plan : List Piece) (tokens : List Token) (others : ℕ) (slots : List Slot)
+        (text : List ℕ) → Gives tokens text known → AreKindBits tokens kinds.now
+        → IsTest plan tokens others slots text result }
 {
-    if has(beside.others, beside.wanted) {
-        return None;
-    }
-    Some(gifts_of(tokens, text))
-}
-
-/// The bits of the tokens that the constant bytes of a log type bring, which may have been looked
-/// for.
-fn all_gifts(tokens: &[Token], early: Option<u8>, text: &[u8]) -> u8
-    requires { IfSome early (Gives tokens.now text.now) }
-    ensures { Gives tokens.now text.now result }
-{
-    match early {
-        Some(known) => known,
-        None => gifts_of(tokens, text),
+    TypeTest {
+        verdict: Verdict::Tried,
+        has: known,
+        sums: kinds.sums(),
+        listed: false,
+        first,
+        end: first,
     }
 }
 
-/// The bits of the runs that a log type leaves to stamps, where it is not rejected by the tokens
-/// that its constant bytes bring.
-fn left_to_stamps(runs: &[Run], beside: &Beside, early: Option<u8>, text: &[u8]) -> u8
+/// The bits of the runs that a log type leaves to stamps, where it does not lack a token.
+fn left_to_stamps(runs: &[Run], lacks: bool, text: &[u8]) -> u8
     ensures { IsAlone runs.now text.now result }
 {
-    if beside.lacks_told(early) {
+    if lacks {
         return 0;
     }
     alone_of(runs, text)
 }
 
+/// The verdict of a log type's text, by the bits of the tokens that its constant bytes bring.
+fn text_verdict(plan: &Plan, question: &Question<'_>, text: &[u8], known: u8) -> Verdict
+    ensures { (tokens : List Token) → IsRight plan.now tokens question.now.others text.now result }
+{
+    if question.may_be_certain(known, text) {
+        return verdict_in_order(plan, text);
+    }
+    Verdict::Tried
+}
+
 /// What is known of a log type of whose rows its slots decide, by the bits of the tokens that its
-/// constant bytes bring. Its slots are listed behind those before.
+/// constant bytes bring. Its slots are listed behind those before, where these are not too many.
 fn test_by_slots(
     plan: &Plan,
     question: &Question<'_>,
@@ -251,50 +300,57 @@ fn test_by_slots(
 ) -> Result<TypeTest, AllocError>
     ensures test { IfOk result (λ test. (tokens : List Token) → Gives tokens text.now known
         → AreKindBits tokens question.now.kinds
-        → IsTest plan.now tokens question.now.beside slots.new.items text.now test) }
+        → IsTest plan.now tokens question.now.others slots.new.items text.now test) }
     ensures stays { IfOk result (λ _. Stays slots.old.items slots.new.items) }
 {
     let first = slots.len();
-    let verdict = verdict_behind(plan, text, question.may_be_certain(known, text));
+    let verdict = text_verdict(plan, question, text, known);
     if verdict != Verdict::Tried {
         return Ok(closed_test(verdict, first));
     }
+    if first >= MOST_SLOTS {
+        return Ok(unlisted_test(&question.kinds, known, first));
+    }
     list_slots(slots, &question.kinds, known, text)?;
+    let end = slots.len();
     Ok(TypeTest {
-        verdict,
+        verdict: Verdict::Tried,
         has: known,
+        sums: sums_from(slots.as_slice(), first),
+        listed: true,
         first,
-        end: slots.len(),
+        end,
     })
 }
 
-/// What is known of a log type with this text, by the bits of the runs that it leaves to stamps.
+/// What is known of a log type with this text, which is told whether it lacks a token, and by the
+/// bits of the runs that it leaves to stamps.
 ///
-/// Most log types of a long log are rejected by the bytes of the tokens alone, or leave all runs to
-/// stamps: their slots are not looked at.
+/// Most log types of a long log lack a token, or leave all runs to stamps: their slots are not
+/// looked at.
 fn test_of(
     plan: &Plan,
     tokens: &[Token],
     question: &Question<'_>,
     slots: &mut Vec<Slot>,
     text: &[u8],
-    early: Option<u8>,
+    lacks: bool,
     alone: u8,
 ) -> Result<TypeTest, AllocError>
-    requires { IfSome early (Gives tokens.now text.now) }
+    requires { IsTrue lacks → LacksText tokens.now question.now.others text.now }
     ensures test { IfOk result (λ test. HasAll tokens.now question.now.tokens
         → AreKindBits tokens.now question.now.kinds
-        → IsTest plan.now tokens.now question.now.beside slots.new.items text.now test) }
+        → IsTest plan.now tokens.now question.now.others slots.new.items text.now test) }
     ensures stays { IfOk result (λ _. Stays slots.old.items slots.new.items) }
 {
     let first = slots.len();
-    if question.beside.lacks_told(early) {
+    if lacks {
         return Ok(closed_test(Verdict::Rejected, first));
     }
     if question.is_for_stamps(alone) {
         return Ok(passed_test(question.tokens, first));
     }
-    let known = all_gifts(tokens, early, text);
+    let known = gifts_of(tokens, question.others, text);
     test_by_slots(plan, question, slots, text, known)
 }
 
@@ -314,16 +370,16 @@ pub(crate) fn test_types<N: Names>(
     requires alone { alone.old.items ≡ [] }
     ensures tests { OnOk result (HasAll tokens.now question.now.tokens
         → AreKindBits tokens.now question.now.kinds → AreTests plan.now tokens.now
-        question.now.beside (N.types names.now) slots.new.items tests.new.items) }
+        question.now.others (N.types names.now) slots.new.items tests.new.items) }
     ensures alone { OnOk result (AreAlone runs.now (N.types names.now) alone.new.items) }
 {
     for number in 0..u32::MAX {
         let Some(text) = names.type_text(number) else {
             return Ok(());
         };
-        let early = early_gifts(tokens, &question.beside, text);
-        let bits = left_to_stamps(runs, &question.beside, early, text);
-        let test = test_of(plan, tokens, question, slots, text, early, bits)?;
+        let lacks = lacks_rare(tokens, question.lead, question.others, text);
+        let bits = left_to_stamps(runs, lacks, text);
+        let test = test_of(plan, tokens, question, slots, text, lacks, bits)?;
         tests.push(test)?;
         alone.push(bits)?;
     }

@@ -7,7 +7,7 @@ ghost use Rattle.subquery_filter.specs.StepsFilter.{NoneBelow};
 ghost use Rattle.subquery_filter.specs.declared.token.Token.{Token};
 
 use crate::number_text::is_open_whole;
-use crate::slots::{Slot, has_kind};
+use crate::slots::{MOST_SLOTS, Slot, has_kind};
 use crate::token::Token;
 use crate::tokens::open_marks;
 use logtype_text::Kind;
@@ -98,7 +98,7 @@ fn mark_small(alloc: Global, tokens: &[Token], least: u64) -> Result<Vec<u8>, Al
 }
 
 /// What is told of whole numbers by these tokens. The table is made only where a slot of a whole
-/// number is listed, and some token may stand in a number of it.
+/// number is listed or may be left out, and some token may stand in a number of it.
 pub(crate) fn small_needed(
     alloc: Global,
     slots: &[Slot],
@@ -107,7 +107,8 @@ pub(crate) fn small_needed(
     ensures { IfOk result (λ small. TellsSmall tokens.now small) }
 {
     let least = least_of(tokens);
-    if least >= SMALL || !has_kind(slots, Kind::Whole) {
+    let needed = slots.len() >= MOST_SLOTS || has_kind(slots, Kind::Whole);
+    if least >= SMALL || !needed {
         let marks = Vec::new(alloc);
         return Ok(SmallNumbers { least, marks });
     }

@@ -14,6 +14,7 @@ ghost use Rattle.logtype_text.specs.TypeText.{IsTypeText};
 ghost use Rattle.subquery_filter.specs.Tokens.{StandsInType, stored};
 
 use crate::beside::{pass_piece, text_around};
+use crate::bits::has;
 use crate::number_text::{is_open, is_plain};
 use crate::short_text::stands_in;
 use crate::token::Token;
@@ -248,13 +249,27 @@ fn gift_of(token: &Token, text: &[u8]) -> u8
     }
 }
 
-/// The bits of the tokens that stand among the constant bytes of a log type.
-pub(crate) fn gifts_of(tokens: &[Token], text: &[u8]) -> u8
+/// The same, where a token that is not among others is taken to stand there.
+fn gift_beside(token: &Token, others: u8, text: &[u8]) -> u8
+    ensures { IsTypeText text.now → StandsInType token.now.matcher.items text.now
+        → result ≡ token.now.bit }
+{
+    if has(others, token.bit) {
+        gift_of(token, text)
+    } else {
+        token.bit
+    }
+}
+
+/// The bits of the tokens that stand among the constant bytes of a log type. Those that rows bring
+/// in no other way, so that their bits are not among others, are taken to stand there: without
+/// them the log type is rejected.
+pub(crate) fn gifts_of(tokens: &[Token], others: u8, text: &[u8]) -> u8
     ensures { Gives tokens.now text.now result }
 {
     let mut bits = 0;
     for token in tokens {
-        bits |= gift_of(token, text);
+        bits |= gift_beside(token, others, text);
     }
     bits
 }

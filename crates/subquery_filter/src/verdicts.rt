@@ -115,20 +115,21 @@ pub fn verdict_of(plan: &Plan, text: &[u8]) -> Verdict
     }
 }
 
-/// The same, where it is told whether the log type may be certain. That is a hint: each one may be
-/// tried.
-pub(crate) fn verdict_behind(plan: &Plan, text: &[u8], may_be_certain: bool) -> Verdict
+/// The same of a log type among whose constant bytes all tokens stand, so that mostly it is certain:
+/// that is asked first.
+pub(crate) fn verdict_in_order(plan: &Plan, text: &[u8]) -> Verdict
     ensures rejected { (parts : List Part) → text.now ≡ type_text (map symbol_of parts)
         → result ≡ Verdict.Rejected → IsRejected plan.now parts }
     ensures certain { (parts : List Part) → text.now ≡ type_text (map symbol_of parts)
         → result ≡ Verdict.Certain → IsCertain plan.now parts }
 {
-    let constants = TypeLetters { text, mark: None };
-    if !matches_letters(plan.skeleton().as_slice(), constants) {
-        return Verdict::Rejected;
-    }
-    if may_be_certain && is_certain(plan.wide().as_slice(), text) {
+    if is_certain(plan.wide().as_slice(), text) {
         return Verdict::Certain;
     }
-    Verdict::Tried
+    let constants = TypeLetters { text, mark: None };
+    if matches_letters(plan.skeleton().as_slice(), constants) {
+        Verdict::Tried
+    } else {
+        Verdict::Rejected
+    }
 }

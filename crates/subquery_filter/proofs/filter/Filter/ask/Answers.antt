@@ -1,6 +1,5 @@
-use Rattle.std.proofs.Common.{List, rules, subst, sym}
+use Rattle.std.proofs.Common.{ℕ, List, rules, subst, sym}
 use Rattle.subquery_filter.specs.declared.run.Run.{Run}
-use Rattle.subquery_filter.specs.declared.slots.Beside.{Beside}
 use Rattle.subquery_filter.specs.declared.token.Token.{Token}
 use Rattle.subquery_filter.specs.Filter.{AreAlone, AreCoded, AreTests, TellsSmall}
 use Rattle.subquery_filter.proofs.ClosedLemmas.{are_coded}
@@ -19,8 +18,8 @@ returns-clause-asks g c = asks_ok c.args.plan.now (g.N.Names.types c.args.names.
       are = a.are;
       wanted = a.wanted;
       tests =
-          subst (λ (x : Beside). AreTests c.args.plan.now c.args.self.tokens.items x types slots tests) c.beside.ensures
-          (subst (λ (l : List Token). AreTests c.args.plan.now l c.beside.result types slots tests) looked (c.in_ok-test_types.ensures.tests c.all_bits.ensures.each (c.kind_bits.ensures coded)));
+          subst (λ (x : ℕ). AreTests c.args.plan.now c.args.self.tokens.items x types slots tests) c.others-others.ensures
+          (subst (λ (l : List Token). AreTests c.args.plan.now l c.others-others.result types slots tests) looked (c.in_ok-test_types.ensures.tests c.all_bits.ensures.each (c.kind_bits.ensures coded)));
       needles = a.needles;
       told = told_none _ _ (search rules);
       brought = a.brought;
@@ -48,8 +47,8 @@ returns-clause-filter g c = filters_ok c.args.plan.now (g.N.Names.types c.args.n
         are = a.are;
         wanted = a.wanted;
         tests =
-            subst (λ (x : Beside). AreTests c.args.plan.now c.args.self.tokens.items x types slots tests) c.beside.ensures
-            (subst (λ (l : List Token). AreTests c.args.plan.now l c.beside.result types slots tests) looked (c.in_ok-test_types.ensures.tests c.all_bits.ensures.each (c.kind_bits.ensures coded)));
+            subst (λ (x : ℕ). AreTests c.args.plan.now c.args.self.tokens.items x types slots tests) c.others-others.ensures
+            (subst (λ (l : List Token). AreTests c.args.plan.now l c.others-others.result types slots tests) looked (c.in_ok-test_types.ensures.tests c.all_bits.ensures.each (c.kind_bits.ensures coded)));
         needles = a.needles;
         told = told_none _ _ (search rules);
         brought = a.brought;

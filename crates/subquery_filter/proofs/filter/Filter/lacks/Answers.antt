@@ -5,5 +5,5 @@ use Rattle.subquery_filter.proofs.filter.Filter.lacks.Goals as goal
 
 pub returns-clause-lacks : goal.returns-clause-lacks
 returns-clause-lacks c = λ yes.
-    lacks_by c.args.self.now c.args.test.now (row_of c.args.row) c.with_slots-bits.result c.with_stamp-all.result c.with_slots-bits.ensures.more c.with_slots-bits.ensures.slots c.with_stamp-all.ensures.more
+    lacks_by c.args.self.now c.args.test.now (row_of c.args.row) c.with_variables-bits.result c.with_stamp-all.result c.with_variables-bits.ensures.more c.with_variables-bits.ensures.brings c.with_stamp-all.ensures.more
     c.with_stamp-all.ensures.stamp (c.has-2.ensures.no (search rules))

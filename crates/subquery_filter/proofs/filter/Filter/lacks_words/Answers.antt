@@ -5,5 +5,5 @@ use Rattle.subquery_filter.proofs.filter.Filter.lacks_words.Goals as goal
 
 pub returns : goal.returns
 returns c = λ yes.
-    lacks_numbers c.args.self.now c.args.test.now (row_of c.args.row) c.mark_at-may.result c.with_words-all.result c.with_words-all.ensures.more c.with_words-all.ensures.slots (search rules)
+    lacks_numbers c.args.self.now c.args.test.now (row_of c.args.row) c.mark_at-may.result c.with_dictionary-all.result c.with_dictionary-all.ensures.more c.with_dictionary-all.ensures.brings (search rules)
     (c.has-2.ensures.no (search rules))

@@ -8,12 +8,12 @@ use Rattle.subquery_filter.specs.StepsLetters.{mark_of, marked_from}
 use Rattle.subquery_filter.specs.Verdicts.{BeginsMany}
 use Rattle.subquery_filter.proofs.RuleLemmas.{tells_not}
 use Rattle.subquery_filter.proofs.VerdictLemmas.{certain_of, constants_tell}
-use Rattle.subquery_filter.proofs.verdicts.verdict_behind.Goals as goal
+use Rattle.subquery_filter.proofs.verdicts.verdict_in_order.Goals as goal
 
-pub returns-then-not-matches_letters-clause-rejected : goal.returns-then-not-matches_letters-clause-rejected
-returns-then-not-matches_letters-clause-rejected c = λ parts same is.
+pub returns-else-matches_letters-clause-rejected : goal.returns-else-matches_letters-clause-rejected
+returns-else-matches_letters-clause-rejected c = λ parts same is.
     let tells : IsTrue c.matches_letters.result ↔ Match (skeleton_of c.args.plan.now) (marked_from false (mark_of None) c.args.text.now) = search rules in
-    tells_not c.matches_letters.result (constants_tell (skeleton_of c.args.plan.now) c.args.text.now parts same tells) c.if-not-matches_letters.true
+    tells_not c.matches_letters.result (constants_tell (skeleton_of c.args.plan.now) c.args.text.now parts same tells) c.if-matches_letters.false
 
 pub returns-then-is_certain-clause-certain : goal.returns-then-is_certain-clause-certain
 returns-then-is_certain-clause-certain c = λ parts same is.

@@ -1,0 +1,5 @@
+use Rattle.subquery_filter.proofs.FilterLemmas.{right_verdict}
+use Rattle.subquery_filter.proofs.slots.text_verdict.Goals as goal
+
+pub returns-then-may_be_certain : goal.returns-then-may_be_certain
+returns-then-may_be_certain c = λ tokens. right_verdict c.args.plan.now tokens c.args.question.now.others c.args.text.now c.verdict_in_order.result c.verdict_in_order.ensures.rejected c.verdict_in_order.ensures.certain
