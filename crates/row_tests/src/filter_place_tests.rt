@@ -12,6 +12,7 @@ const PLACE_TYPES: &[&[u8]] = &[
     b"plain",
     b"at\\\\dir \x11",
     b"ab\\\x12 \x11",
+    b"x alpha \x12 beta y",
 ];
 
 const PLACE_WORDS: &[&[u8]] = &[b"task_1", b"zeta7", b"u\\x9"];
@@ -28,6 +29,10 @@ const PLACES: &[Row] = &[
     (b"alpha * beta", Case::Plain(0, &[0], Verdict::Certain)),
     (b"alpha task_1 beta", Case::Plain(0, &[0], Verdict::Tried)),
     (b"a task_1 b", Case::Plain(0, &[0], Verdict::Tried)),
+    // constant bytes in another order, which tells where no slot may bring them
+    (b" alpha * beta ", Case::Plain(6, &[0], Verdict::Certain)),
+    (b" beta * alpha ", Case::Plain(6, &[0], Verdict::Rejected)),
+    (b"beta*alpha", Case::Plain(6, &[0], Verdict::Tried)),
     // a word
     (b"zeta7", Case::Plain(1, &[1], Verdict::Tried)),
     (b"zeta7", Case::Plain(1, &[0], Verdict::Rejected)),

@@ -4,6 +4,8 @@
 #[cfg(test)]
 mod books;
 #[cfg(test)]
+mod filter_many_tests;
+#[cfg(test)]
 mod filter_number_tests;
 #[cfg(test)]
 mod filter_place_tests;

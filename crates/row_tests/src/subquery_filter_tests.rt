@@ -120,7 +120,7 @@ fn segment_holds(
 }
 
 /// A row.
-fn row_of(pattern: u8, moment: i64, log_type: u32, words: &[u64]) -> RowRef<'_> {
+pub(crate) fn row_of(pattern: u8, moment: i64, log_type: u32, words: &[u64]) -> RowRef<'_> {
     RowRef {
         pattern,
         moment,
@@ -139,7 +139,13 @@ fn accepted(plan: &Plan, row: RowRef<'_>, books: &Books) -> Option<bool> {
 }
 
 /// Whether the filter tells a row so, and leaves it out only where it is not accepted.
-fn is_told(filter: &Filter, plan: &Plan, books: &Books, row: RowRef<'_>, want: Verdict) -> bool {
+pub(crate) fn is_told(
+    filter: &Filter,
+    plan: &Plan,
+    books: &Books,
+    row: RowRef<'_>,
+    want: Verdict,
+) -> bool {
     let verdict = filter.verdict(row);
     let left_out = verdict == Verdict::Rejected && accepted(plan, row, books) != Some(false);
     verdict == want && !left_out
@@ -147,7 +153,7 @@ fn is_told(filter: &Filter, plan: &Plan, books: &Books, row: RowRef<'_>, want: V
 
 /// Whether the filter leaves a segment a match, which lists these log types and words and has rows with
 /// stamps between two moments, or none with a stamp.
-fn may_match(
+pub(crate) fn may_match(
     alloc: Global,
     filter: &Filter,
     between: Option<(i64, i64)>,
@@ -303,7 +309,7 @@ fn plan_holds(alloc: Global, books: &Books, plan: &Plan, case: &Case) -> Result<
 }
 
 /// The plan of a pattern's text.
-fn plan_of(alloc: Global, text: &[u8]) -> Result<Plan, Fail> {
+pub(crate) fn plan_of(alloc: Global, text: &[u8]) -> Result<Plan, Fail> {
     let pattern = read_pattern(alloc, text).ok().ok_or("a pattern")?;
     Ok(Plan::new(alloc, &pattern)?)
 }
