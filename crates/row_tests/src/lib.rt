@@ -8,6 +8,8 @@ mod filter_many_tests;
 #[cfg(test)]
 mod filter_number_tests;
 #[cfg(test)]
+mod filter_page_tests;
+#[cfg(test)]
 mod filter_place_tests;
 #[cfg(test)]
 mod filter_stamp_tests;

@@ -138,6 +138,13 @@ fn accepted(plan: &Plan, row: RowRef<'_>, books: &Books) -> Option<bool> {
     }
 }
 
+/// Whether a row that is rejected by the words of a page, which has no other row, is rejected by itself.
+fn agrees(filter: &Filter, row: RowRef<'_>, verdict: Verdict) -> bool {
+    let mut hit = 0;
+    let known = filter.rejects_row(row.log_type, row.words, 0, row.words.len(), &mut hit);
+    !known || verdict == Verdict::Rejected
+}
+
 /// Whether the filter tells a row so, and leaves it out only where it is not accepted.
 pub(crate) fn is_told(
     filter: &Filter,
@@ -148,7 +155,7 @@ pub(crate) fn is_told(
 ) -> bool {
     let verdict = filter.verdict(row);
     let left_out = verdict == Verdict::Rejected && accepted(plan, row, books) != Some(false);
-    verdict == want && !left_out
+    verdict == want && !left_out && agrees(filter, row, verdict)
 }
 
 /// Whether the filter leaves a segment a match, which lists these log types and words and has rows with
@@ -330,14 +337,14 @@ fn told_rows(alloc: Global, books: &Books, rows: &[Row]) -> Result<usize, Fail> 
     Ok(rows.len())
 }
 
-fn add_types(books: &mut Books, texts: &[&[u8]]) -> Result<(), BookRefusal> {
+pub(crate) fn add_types(books: &mut Books, texts: &[&[u8]]) -> Result<(), BookRefusal> {
     for text in texts {
         books.add_type(text)?;
     }
     Ok(())
 }
 
-fn add_words(books: &mut Books, texts: &[&[u8]]) -> Result<(), BookRefusal> {
+pub(crate) fn add_words(books: &mut Books, texts: &[&[u8]]) -> Result<(), BookRefusal> {
     for text in texts {
         books.add_word(text)?;
     }

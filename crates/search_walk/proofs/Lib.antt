@@ -10,6 +10,7 @@ pub mod PickLemmas
 pub mod RowLemmas
 pub mod VerdictLemmas
 pub mod ReadyLemmas
+pub mod CountLemmas
 pub mod SegmentLemmas
 pub mod JournalLemmas
 pub mod PageLemmas

@@ -5,10 +5,12 @@ use Rattle.column_store.specs.Range.{Holds}
 use Rattle.column_store.specs.declared.range.Range.{Range}
 use Rattle.column_store.specs.declared.row.Row.{Row}
 use Rattle.wild_match.specs.Matches.{Match}
+use Rattle.query_plan.specs.Laws.{IsSearched}
 use Rattle.query_plan.specs.Pieces.{wide, wide_pieces}
 use Rattle.row_codec.specs.Means.{HasSpelling, IsCanonical, IsSpelling}
 use Rattle.row_codec.specs.Numbers.{numbers_of_row}
-use Rattle.subquery_filter.specs.Filter.{IsRowVerdict}
+use Rattle.subquery_filter.specs.declared.filter.Filter.{Filter}
+use Rattle.subquery_filter.specs.Filter.{IsFilter, IsRowVerdict, Rejects}
 use Rattle.subquery_filter.specs.declared.verdicts.Verdict.{Verdict}
 use Rattle.subquery_filter.specs.declared.verdicts.Verdict.TheVariants.{Rejected, Certain, Tried}
 use Rattle.word_places.specs.Held.{HeldNames, lends}
@@ -57,3 +59,7 @@ certain_matches n q held row v text g1 g2 judged k local is not lent spelled siz
     let own : IsSpelling row n.types n.words text = local row n.types (lends held.records) n.words text (λ m at. sym (agree m at)) (lent_spelling n q held row v text lent spelled) in
     let read : judged ≡ text = cut ∙ ap₂ (λ (k : ℕ) (l : List ℕ). drop k l) size wrote ∙ drop_at g1 text (length g1) refl in
     subst (Match (wide q.pattern)) (sym read) ((subst (IsDecided n q row) is lent.decided).1 text own)
+
+-- by what is told of it whatever the filter is one of
+pub decided_known : (n : Named) (q : Asked) (row : Row) (f : Filter) → Rejects f row → IsSearched q.pattern → IsFilter (wide_pieces q.pattern) n.types n.words f → IsDecided n q row Rejected
+decided_known n q row f rejects searched is message tried_as tried = rejects q.pattern n.types n.words searched is n.version message tried_as tried.matched

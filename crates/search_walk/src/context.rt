@@ -1,7 +1,8 @@
 //! What each call of a search lends on to the next.
-ghost use Rattle.std.specs.Prelude.{◌≡◌, ◌⊎◌, ◌∷◌, ◌↔◌, [], ℕ, List, All, Option, IfSome, IsFalse, IsNone, IsTrue};
+ghost use Rattle.std.specs.Prelude.{◌≡◌, ◌<◌, ◌⊎◌, ◌∷◌, ◌↔◌, [], ℕ, List, All, Option, Some, IfSome, IsFalse, IsNone, IsTrue, length, slice_get};
 ghost use Rattle.plain_list.specs.Texts.{AreDistinct};
 ghost use Rattle.column_store.specs.Row.{row_of};
+ghost use Rattle.column_store.specs.declared.row.Row.{Row};
 ghost use Rattle.row_codec.specs.Laid.{AreCut};
 ghost use Rattle.segment_format.specs.Layout.{IsFixed, IsHead};
 ghost use Rattle.archive_places.specs.Fronts.{fixed_in};
@@ -9,7 +10,7 @@ ghost use Rattle.query_plan.specs.Laws.{IsSearched};
 ghost use Rattle.query_plan.specs.Pieces.{wide_pieces};
 ghost use Rattle.barren_segments.specs.Barren.{IsBounded, LeavesOut};
 ghost use Rattle.subquery_filter.specs.declared.filter.Filter.{Filter};
-ghost use Rattle.subquery_filter.specs.Filter.{HasNoMatch, IsFilter};
+ghost use Rattle.subquery_filter.specs.Filter.{HasNoMatch, IsFilter, Rejects};
 ghost use Rattle.subquery_filter.specs.Page.{IsPage};
 ghost use Rattle.search_walk.specs.Held.{IsTold, Named, named};
 ghost use Rattle.search_walk.specs.Opened.{IsBarrenFor, IsOpened, NoneTold};
@@ -20,7 +21,7 @@ use crate::opening::open_segment;
 use crate::query::Query;
 use archive_open::{FileEntry, SegmentPlace};
 use archive_places::SegmentFront;
-use column_store::RowRef;
+use column_store::{Columns, RowRef};
 use log_seams::Disk;
 use query_plan::wide_is_wider;
 use row_codec::Layouts;
@@ -195,6 +196,30 @@ impl<'q, D: Disk> Context<'q, D> {
             return Verdict::Rejected;
         }
         filter.verdict_in(row, page)
+    }
+
+    /// The same of the row at a place of a page, of which it may be known that it is rejected.
+    #[inline]
+    pub fn decide_at(
+        &self,
+        filter: &Filter,
+        known: bool,
+        rows: &Columns,
+        place: u32,
+        page: &mut PageTests,
+    ) -> Verdict
+        requires { place < length rows.now.rows }
+        ensures decided { (row : Row) → slice_get rows.now.rows place ≡ Some row
+            → (IsTrue known → Rejects filter.now row) → IsPage filter.now page.old
+            → (IsTold self.now.names → IsFilter (wide_pieces self.now.query.pattern)
+            self.now.names.types self.now.names.words filter.now)
+            → IsTold self.now.names → IsDecided self.now.names self.now.query row result }
+        ensures kept { (f : Filter) → IsPage f page.old → IsPage f page.new }
+    {
+        if known {
+            return Verdict::Rejected;
+        }
+        self.decide_in(filter, rows.row(place), page)
     }
 
     /// The query.

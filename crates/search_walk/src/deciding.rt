@@ -1,5 +1,5 @@
 //! Rows that are decided, and the words that are read for those that may have to be written.
-ghost use Rattle.std.specs.Prelude.{◌≡◌, ◌≤◌, length, vec_capacity, IsTrue, OnOk, IsErrOf};
+ghost use Rattle.std.specs.Prelude.{◌≡◌, ◌<◌, ◌≤◌, length, slice_get, vec_capacity, Some, IsTrue, OnOk, IsErrOf};
 ghost use Rattle.std.specs.List.{AllZip};
 ghost use Rattle.log_seams.specs.Disk.{Rests};
 ghost use Rattle.log_seams.specs.Outside.{CountsOf};
@@ -17,8 +17,29 @@ use log_seams::Disk;
 use subquery_filter::Verdict;
 use word_places::HeldWords;
 
+/// The log type's number at a place.
+#[inline]
+fn type_at(types: &[u32], place: u32) -> u32
+    requires { place < length types.now }
+    ensures { slice_get types.now place ≡ Some result }
+{
+    types[place as usize]
+}
+
+/// Where the words of the row at a place end.
+#[inline]
+fn end_at(ends: &[u32], place: u32) -> usize
+    requires { place < length ends.now }
+    ensures { slice_get ends.now place ≡ Some result }
+{
+    ends[place as usize] as usize
+}
+
 /// Decides each row of a page, by its moment and by its numbers alone. It asks neither the disk nor a
 /// word, and takes no memory: there is room for a verdict for each row.
+///
+/// Most rows are rejected by their log types and by where the next word stands that counts, so their
+/// own words are not looked at one by one.
 // A function of its own, so that its loop has the registers.
 #[inline(never)]
 pub fn decide_page<D: Disk>(context: &Context<'_, D>, page: &Columns, verdicts: &mut Vec<Verdict>)
@@ -28,9 +49,18 @@ pub fn decide_page<D: Disk>(context: &Context<'_, D>, page: &Columns, verdicts: 
     verdicts.clear();
     let filter = context.filter();
     let mut tests = filter.begin_page(page.patterns(), page.moments());
+    let types = page.types();
+    let ends = page.ends();
+    let words = page.words();
+    let mut start = 0;
+    let mut hit = 0;
     for place in 0..page.rows() {
-        let verdict = context.decide_in(filter, page.row(place), &mut tests);
+        let end = end_at(ends, place);
+        let log_type = type_at(types, place);
+        let known = filter.rejects_row(log_type, words, start, end, &mut hit);
+        let verdict = context.decide_at(filter, known, page, place, &mut tests);
         verdicts.push_reserved(verdict);
+        start = end;
     }
 }
 

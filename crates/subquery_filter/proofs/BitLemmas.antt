@@ -1,5 +1,5 @@
 -- Sets of tokens as bits.
-use Rattle.std.proofs.Common.{ℕ, ◌≤◌, ap, arith}
+use Rattle.std.proofs.Common.{◌≡◌, ℕ, ◌≤◌, ap, arith}
 use Rattle.std.specs.Prelude.{bit_and, bit_or}
 use Rattle.std.specs.Int.{bit_at}
 use Rattle.std.proofs.lemmas.Nat.Bits.{bit_at_and, bit_at_or, same_from_bits}
@@ -40,3 +40,6 @@ has_within bits own words brought c one two both there = has_bits bits c (λ i.
 
 pub has_none : (all : ℕ) → Has all 0
 has_none all = has_bits all 0 (λ i. omega arith)
+
+pub has_zero : (a : ℕ) → Has 0 a → a ≡ 0
+has_zero a has = same_from_bits a 0 (λ i. let x = bits_of 0 a has i in omega (arith, x))

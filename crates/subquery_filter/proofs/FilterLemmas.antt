@@ -251,7 +251,7 @@ ByVariables f words text row bits =
     → HasWord words kind variable word → MarksVariable f.tokens.items variable bits
 
 -- a row that does not bring all that is wanted is not matched
-lacks_bits : RowsBring → (ps : List Piece) (types words : List (List ℕ)) (f : Filter) → IsFilter ps types words f → (row : Row) (test : TypeTest) (bits : ℕ)
+pub lacks_bits : RowsBring → (ps : List Piece) (types words : List (List ℕ)) (f : Filter) → IsFilter ps types words f → (row : Row) (test : TypeTest) (bits : ℕ)
     → slice_get f.tests.items row.log_type ≡ Some test → test.verdict ≡ Tried → Has bits test.has
     → ((s : List ℕ) → HasStampText row.pattern row.moment s → StampMarks f.tokens.items s bits)
     → ((parts : List Part) → slice_get types row.log_type ≡ Some (type_text (map symbol_of parts)) → ByVariables f words (type_text (map symbol_of parts)) row.words bits)
@@ -290,7 +290,7 @@ row_lacks law p types words f is row test at tried h =
     ])
     h.lacks
 
-stamp_may : (f : Filter) (types words : List (List ℕ)) (ps : List Piece) → IsFilter ps types words f → (row : Row) (bits : ℕ) → Has bits f.stamped → (s : List ℕ) → HasStampText row.pattern row.moment s → StampMarks f.tokens.items s bits
+pub stamp_may : (f : Filter) (types words : List (List ℕ)) (ps : List Piece) → IsFilter ps types words f → (row : Row) (bits : ℕ) → Has bits f.stamped → (s : List ℕ) → HasStampText row.pattern row.moment s → StampMarks f.tokens.items s bits
 stamp_may f types words ps is row bits has s stamped = λ j d lt fits.
     has_through bits f.stamped (slice_index_or f.tokens.items j d).bit has
     (has_through f.stamped (slice_index_or f.stamps.items row.pattern 0) (slice_index_or f.tokens.items j d).bit (is.asks.stamped row.pattern) (is.asks.stamps row.pattern row.moment s stamped j d lt fits))

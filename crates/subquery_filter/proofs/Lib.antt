@@ -7,6 +7,7 @@ mod TokenLemmas
 mod StoredLemmas
 mod FilterLemmas
 mod RejectLemmas
+mod NeedLemmas
 mod NumberLemmas
 mod DecimalLemmas
 mod SmallLemmas

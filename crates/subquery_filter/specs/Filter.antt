@@ -1,24 +1,29 @@
 -- What a filter knows of the words and the log types of an archive.
-use Rattle.std.specs.Prelude.{◌≡◌, ◌≢◌, ◌⊎◌, ◌<◌, ◌≤◌, ℕ, ℤ, ◌≤ℤ◌, List, All, None, Some, bit_and, bit_or, false, true, map, slice_get, slice_index_or}
+use Rattle.std.specs.Prelude.{◌≡◌, ◌≢◌, ◌⊎◌, ◌<◌, ◌≤◌, ℕ, ℤ, ◌≤ℤ◌, List, All, None, Some, bit_and, bit_or, false, true, length, map, slice_get, slice_index_or}
 use Rattle.std.specs.List.{Contains}
 use Rattle.std.specs.Fmt.{signed_decimal}
 use Rattle.std.specs.Int.{cast_signed, w64}
 use Rattle.var_codec.specs.Codes.{Codes}
 use Rattle.var_codec.specs.declared.Coded.{Coded}
+use Rattle.var_codec.specs.declared.Coded.TheVariants.{Decimal as DecimalWord, Whole as WholeWord}
 use Rattle.column_store.specs.declared.row.Row.{Row}
 use Rattle.logtype_text.specs.declared.symbols.Kind.{Kind}
 use Rattle.logtype_text.specs.declared.symbols.Kind.TheVariants.{Whole, Word, Decimal}
 use Rattle.logtype_text.specs.Parts.{Part, symbol_of}
 use Rattle.logtype_text.specs.TypeText.{IsTypeText, type_text}
 use Rattle.wild_match.specs.Matches.{Match}
+use Rattle.wild_match.specs.declared.pattern.Item.{Item}
 use Rattle.row_codec.specs.Means.{HasStampText, HasWord, IsCanonical, IsSpelling}
 use Rattle.row_codec.specs.Numbers.{numbers_of_row}
 use Rattle.segment_format.specs.declared.head.Head.{Head}
 use Rattle.query_plan.specs.declared.pieces.Piece.{Piece}
 use Rattle.query_plan.specs.Needs.{around}
-use Rattle.query_plan.specs.Pieces.{IsCut, flat}
+use Rattle.query_plan.specs.Laws.{IsSearched}
+use Rattle.query_plan.specs.Pieces.{IsCut, flat, wide_pieces}
 use Rattle.subquery_filter.specs.declared.run.Run.{Run}
 use Rattle.subquery_filter.specs.declared.filter.Filter.{Filter}
+use Rattle.subquery_filter.specs.declared.needing.Need.{Need}
+use Rattle.subquery_filter.specs.declared.needing.Need.TheVariants.{Never, Hit, Open}
 use Rattle.subquery_filter.specs.declared.marks.WordMarks.{WordMarks}
 use Rattle.subquery_filter.specs.declared.slots.Slot.{Slot}
 use Rattle.subquery_filter.specs.declared.slots.Sums.{Sums}
@@ -28,6 +33,7 @@ use Rattle.subquery_filter.specs.declared.small.SmallNumbers.{SmallNumbers}
 use Rattle.subquery_filter.specs.declared.token.Token.{Token}
 use Rattle.subquery_filter.specs.declared.verdicts.Verdict.{Verdict}
 use Rattle.subquery_filter.specs.declared.verdicts.Verdict.TheVariants.{Rejected, Certain, Tried}
+use Rattle.subquery_filter.specs.NumberText.{is_number_part}
 use Rattle.subquery_filter.specs.StepsLetters.{kinds_in}
 use Rattle.subquery_filter.specs.Tokens.{IsClosedIn, IsInRun, IsRunOf, IsTokenOf, LiesInStamp, MayGoOn, MayStandIn, StandsInType}
 use Rattle.subquery_filter.specs.Verdicts.{IsCertain, IsRejected}
@@ -227,6 +233,53 @@ AreTold f verdicts =
     (t : ℕ) (verdict : Verdict) → slice_get verdicts t ≡ Some verdict
     → (test : TypeTest) × (slice_get f.tests.items t ≡ Some test) × IsTold f t test verdict
 
+-- ---- what a row needs of its variables
+
+-- the token is no closed variable, and may stand in a number
+abbrev pub IsOpenNumber : Token → Type 0
+IsOpenNumber k = (k.closed ≡ None) × (is_number_part true k.text ≡ true)
+
+-- the bit of each such token is among these
+abbrev pub AreOpenBits : List Token → ℕ → Type 0
+AreOpenBits tokens bits = All (λ k. IsOpenNumber k → Has bits k.bit) tokens
+
+-- the constant bytes of a log type of which this is known, all stamps and all such tokens do not bring all that is
+-- wanted
+pub record LacksBare (tokens : List Token) (test : TypeTest) (stamped wanted : ℕ) : Type 0 where
+  pub bits : ℕ
+  pub has : Has bits test.has
+  pub stamps : Has bits stamped
+  pub numbers : AreOpenBits tokens bits
+  pub lacks : ¬ Has bits wanted
+
+-- what rows of the log type with this number need is right, by the tokens, what is known of the log types, and the verdicts
+-- on them
+abbrev pub IsNeed : List Token → List TypeTest → ℕ → ℕ → List Verdict → ℕ → Need → Type 0
+IsNeed tokens tests stamped wanted verdicts t Never = slice_get verdicts t ≡ Some Rejected
+IsNeed tokens tests stamped wanted verdicts t Hit =
+    (test : TypeTest) × (slice_get tests t ≡ Some test) × (test.verdict ≡ Tried) × LacksBare tokens test stamped wanted
+IsNeed tokens tests stamped wanted verdicts t Open = Unit {0}
+
+-- so it is of each log type of a filter, by their numbers
+abbrev pub AreNeeds : Filter → List Verdict → List Need → Type 0
+AreNeeds f verdicts needs =
+    (t : ℕ) (need : Need) → slice_get needs t ≡ Some need
+    → IsNeed f.tokens.items f.tests.items f.stamped f.wanted verdicts t need
+
+-- the token is no closed variable that is stored as this word
+abbrev pub IsNoCode : Token → ℕ → Type 0
+IsNoCode k word = (k.closed ≢ Some (WholeWord (cast_signed w64 word))) × (k.closed ≢ Some (DecimalWord word))
+
+-- the word is not marked, and no closed variable is stored as it is
+pub record CountsNot (f : Filter) (word : ℕ) : Type 0 where
+  pub marks : marks_at f.marks word ≡ 0
+  pub code : All (λ k. IsNoCode k word) f.tokens.items
+
+-- so it is of all words from one place up to another
+abbrev pub NoneCounts : Filter → List ℕ → ℕ → ℕ → Type 0
+NoneCounts f words from to =
+    (k : ℕ) → from ≤ k → k < to → k < length words → CountsNot f (slice_index_or words k 0)
+
 -- ---- the filter
 
 -- a token of the pieces, with the text that stands around it there, and closed where it is kept as a closed variable
@@ -252,6 +305,7 @@ pub record AsksTypes (ps : List Piece) (types : List (List ℕ)) (f : Filter) : 
   pub tests : AreTests ps f.tokens.items (others_of f) types f.slots.items f.tests.items
   pub needles : AreTexts f.tokens.items f.needles.items
   pub told : AreTold f f.verdicts.items
+  pub needs : AreNeeds f f.verdicts.items f.needs.items
   pub brought : (n : ℕ) → Has f.brought (marks_at f.marks n)
   pub numbers : AreNumberBits f.tokens.items f.numbers
   pub small : TellsSmall f.tokens.items f.small
@@ -277,6 +331,12 @@ IsRowVerdict ps types words row Tried = Unit {0}
 -- the pattern matches no message of a row of this log type, whatever else the row has
 abbrev pub RejectsType : List Piece → List (List ℕ) → List (List ℕ) → ℕ → Type 0
 RejectsType ps types words t = (row : Row) → row.log_type ≡ t → IsRowVerdict ps types words row Rejected
+
+-- the filter rejects the row, whatever it is a filter of
+abbrev pub Rejects : Filter → Row → Type 0
+Rejects f row =
+    (p : List Item) (types words : List (List ℕ)) → IsSearched p → IsFilter (wide_pieces p) types words f
+    → IsRowVerdict (wide_pieces p) types words row Rejected
 
 -- a stamp has one of the moments of a segment with this head
 abbrev pub IsWithin : Head → ℤ → Type 0

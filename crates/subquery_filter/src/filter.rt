@@ -20,6 +20,7 @@ use crate::alone::{run_bits, runs_of};
 use crate::bits::{any_of, has, mark_at};
 use crate::laws::{rows_bring_chunks, rows_bring_runs, verdicts_hold};
 use crate::marks::WordMarks;
+use crate::needing::Need;
 use crate::needles::{lists_with, texts_of};
 use crate::numbers::{decimal_bits, kind_bits, whole_bits};
 use crate::rare::longest_rare;
@@ -50,18 +51,20 @@ use wild_match::Matcher;
 /// bring all of them cannot match.
 #[derive(Debug, Drop)]
 pub struct Filter {
-    tokens: Vec<Token>,
+    pub(crate) tokens: Vec<Token>,
     /// The bits of all tokens.
-    wanted: u8,
+    pub(crate) wanted: u8,
     /// What is told of all rows of a log type, by their numbers.
     verdicts: Vec<Verdict>,
+    /// What a row of a log type needs, by their numbers.
+    pub(crate) needs: Vec<Need>,
     /// What is known of the log types, by their numbers, and their slots.
-    tests: Vec<TypeTest>,
+    pub(crate) tests: Vec<TypeTest>,
     slots: Vec<Slot>,
     /// The texts of the tokens, which are looked for in words.
     needles: Vec<Text>,
     /// The bits of the words.
-    marks: WordMarks,
+    pub(crate) marks: WordMarks,
     /// The bits that words may bring.
     brought: u8,
     /// The bits that numbers may bring.
@@ -70,7 +73,7 @@ pub struct Filter {
     small: SmallNumbers,
     /// The bits that stamps may bring, by the numbers of their patterns, and those of all patterns.
     stamps: Vec<u8>,
-    stamped: u8,
+    pub(crate) stamped: u8,
     /// The runs of the pattern, each with a bit too, and those that each log type leaves to stamps,
     /// by their numbers.
     runs: Vec<Run>,
@@ -129,6 +132,7 @@ impl Filter {
             tokens,
             wanted,
             verdicts: Vec::new(alloc),
+            needs: Vec::new(alloc),
             tests: Vec::new(alloc),
             slots: Vec::new(alloc),
             needles,
@@ -195,7 +199,12 @@ impl Filter {
             (words : List (List ℕ)) → IsFilter ps types words self → IsFilter ps types words f) }
     {
         let verdicts = self.type_verdicts(alloc)?;
-        Ok(Filter { verdicts, ..self })
+        let needs = self.type_needs(alloc, verdicts.as_slice())?;
+        Ok(Filter {
+            verdicts,
+            needs,
+            ..self
+        })
     }
 
     /// The texts that have to be looked for in words. There are none where the pattern has no
@@ -221,6 +230,7 @@ impl Filter {
             brought: marks.all(),
             marks,
             verdicts: Vec::new(alloc),
+            needs: Vec::new(alloc),
             tests: Vec::new(alloc),
             slots: Vec::new(alloc),
             alone: Vec::new(alloc),
@@ -268,6 +278,7 @@ impl Filter {
         let small = small_needed(alloc, slots.as_slice(), looked)?;
         let filter = Filter {
             verdicts: Vec::new(alloc),
+            needs: Vec::new(alloc),
             tests,
             slots,
             small,

@@ -14,6 +14,7 @@ mod known_names;
 mod laws;
 mod letters;
 mod marks;
+mod needing;
 mod needles;
 mod number_text;
 mod numbers;

@@ -10,6 +10,7 @@ use Rattle.subquery_filter.proofs.ClosedLemmas.{are_coded}
 use Rattle.subquery_filter.proofs.FilterLemmas.{tests_none}
 use Rattle.subquery_filter.proofs.SlotLemmas.{number_bits}
 use Rattle.subquery_filter.proofs.MarkLemmas.{none_brought, told_none}
+use Rattle.subquery_filter.proofs.NeedLemmas.{needs_none}
 use Rattle.subquery_filter.proofs.filter.Filter.begin.Goals as goal
 
 pub returns : goal.returns
@@ -26,6 +27,7 @@ returns c = λ types.
       tests = tests_none _ tokens _ types _ _ (search rules);
       needles = subst (λ (l : List Token). AreTexts l needles) looked c.in_ok-needles.ensures;
       told = told_none _ _ (search rules);
+      needs = needs_none _ _ _ _ _ _ (search rules);
       brought = λ n. none_brought c.all_bits-wanted.result (marks_at c.none.result n) (c.none.ensures n);
       numbers = subst (λ (l : List Token). AreNumberBits l (bit_or kinds.whole kinds.decimal)) looked (number_bits c.as_slice-looked.result.now kinds (c.kind_bits-kinds.ensures coded));
       small = c.none-small.ensures tokens;

@@ -4,6 +4,7 @@ use Rattle.subquery_filter.specs.StepsFilter.{HasLists}
 use Rattle.subquery_filter.proofs.AloneLemmas.{alone_none}
 use Rattle.subquery_filter.proofs.FilterLemmas.{tests_none}
 use Rattle.subquery_filter.proofs.MarkLemmas.{marks_are, told_none}
+use Rattle.subquery_filter.proofs.NeedLemmas.{needs_none}
 use Rattle.subquery_filter.proofs.filter.Filter.mark.Goals as goal
 
 pub returns : goal.returns
@@ -19,6 +20,7 @@ returns c = λ ps types words a have.
         tests = tests_none ps tokens _ types _ _ (search rules);
         needles = a.needles;
         told = told_none _ _ (search rules);
+        needs = needs_none _ _ _ _ _ _ (search rules);
         brought = c.all.ensures;
         numbers = a.numbers;
         small = a.small;

@@ -1,4 +1,6 @@
-use Rattle.std.proofs.Common.{refl}
+use Rattle.std.proofs.Common.{List, refl, subst}
+use Rattle.subquery_filter.specs.declared.verdicts.Verdict.{Verdict}
+use Rattle.subquery_filter.specs.Filter.{AreNeeds}
 use Rattle.subquery_filter.proofs.MarkLemmas.{told_again}
 use Rattle.subquery_filter.proofs.filter.Filter.told.Goals as goal
 
@@ -10,6 +12,7 @@ returns-clause-asks c = λ ps types a. record {
   tests = a.tests;
   needles = a.needles;
   told = told_again c.args.self _ c.in_ok-verdicts.verdicts.items refl refl refl refl refl refl c.in_ok-verdicts.ensures;
+  needs = subst (λ (l : List Verdict). AreNeeds c.args.self l c.in_ok-needs.needs.items) c.as_slice.ensures.value c.in_ok-needs.ensures;
   brought = a.brought;
   numbers = a.numbers;
   small = a.small;
@@ -32,6 +35,7 @@ returns-clause-marked c = λ ps types words is.
         tests = a.tests;
         needles = a.needles;
         told = told_again c.args.self _ c.in_ok-verdicts.verdicts.items refl refl refl refl refl refl c.in_ok-verdicts.ensures;
+        needs = subst (λ (l : List Verdict). AreNeeds c.args.self l c.in_ok-needs.needs.items) c.as_slice.ensures.value c.in_ok-needs.ensures;
         brought = a.brought;
         numbers = a.numbers;
         small = a.small;

@@ -1,0 +1,215 @@
+//! Rows that are told by the words of their page.
+use crate::books::Books;
+use crate::subquery_filter_tests::{add_types, add_words, plan_of, row_of};
+use std::alloc::Global;
+use std::test::Fail;
+use subquery_filter::{Filter, Verdict};
+
+/// The rows of a page: the log type and the words of each.
+type Page = &'static [(u32, &'static [u64])];
+
+/// What is told of a row: it is rejected by the words of its page, it is asked and rejected, or it stays.
+#[derive(Clone, Copy, Debug, PartialEq, Eq)]
+enum Told {
+    Passed,
+    Asked,
+    Stays,
+}
+
+use Told::{Asked, Passed, Stays};
+
+/// A pattern, a page, and what is told of its rows.
+type Case = (&'static [u8], Page, &'static [Told]);
+
+/// One that has a token of its own, one with a word alone, one with a number, one with a decimal, one with
+/// two words, and one without a slot.
+const TYPES: &[&[u8]] = &[
+    b"late \x12 end",
+    b"gone \x12",
+    b"code \x11 at \x12",
+    b"took \x13 for \x12",
+    b"from \x12 to \x12",
+    b"plain",
+];
+
+const WORDS: &[&[u8]] = &[b"task_1", b"zeta_7", b"k404", b"beta_2"];
+
+/// The words of `0.5` and `-0.5`.
+const HALF: u64 = 0x510;
+
+const MINUS_HALF: u64 = 0x8000_0000_0000_0510;
+
+const CASES: &[Case] = &[
+    // the word is that of the first row, of the last, of the only one, of none
+    (
+        b"zeta_7",
+        &[(1, &[1]), (1, &[0]), (1, &[3])],
+        &[Stays, Passed, Passed],
+    ),
+    (
+        b"zeta_7",
+        &[(1, &[0]), (1, &[3]), (1, &[1])],
+        &[Passed, Passed, Stays],
+    ),
+    (b"zeta_7", &[(1, &[1])], &[Stays]),
+    (b"zeta_7", &[(1, &[0])], &[Passed]),
+    (b"zeta_7", &[], &[]),
+    // it is the second of two
+    (
+        b"zeta_7",
+        &[(4, &[0, 1]), (4, &[1, 0]), (4, &[0, 3])],
+        &[Stays, Stays, Passed],
+    ),
+    // a row without variables between two, and one whose own words do not count behind one that has one
+    (
+        b"zeta_7",
+        &[(4, &[0, 0]), (5, &[]), (1, &[1]), (5, &[]), (1, &[0])],
+        &[Passed, Passed, Stays, Passed, Passed],
+    ),
+    // log types that bring the token, and such as do not
+    (
+        b"late*zeta_7",
+        &[(1, &[1]), (0, &[1]), (0, &[0]), (1, &[0])],
+        &[Passed, Stays, Passed, Passed],
+    ),
+    (b"late", &[(0, &[0]), (1, &[0])], &[Stays, Passed]),
+    // a number that is the word's by chance
+    (
+        b"zeta_7",
+        &[(2, &[1, 0]), (2, &[5, 0]), (2, &[5, 1])],
+        &[Asked, Passed, Stays],
+    ),
+    // a closed number, as all of a variable and as a part of a word
+    (
+        b" 404 ",
+        &[(2, &[404, 0]), (2, &[403, 0]), (2, &[403, 2]), (1, &[0])],
+        &[Stays, Passed, Asked, Passed],
+    ),
+    (
+        b" -404 ",
+        &[(2, &[u64::MAX - 403, 0]), (2, &[404, 0])],
+        &[Stays, Passed],
+    ),
+    // a closed decimal
+    (
+        b" 0.5 ",
+        &[(3, &[HALF, 0]), (3, &[HALF + 1, 0]), (3, &[MINUS_HALF, 0])],
+        &[Stays, Passed, Passed],
+    ),
+    (
+        b" -0.5 ",
+        &[(3, &[MINUS_HALF, 0]), (3, &[HALF, 0])],
+        &[Stays, Passed],
+    ),
+    // an open number: each row is asked
+    (
+        b"40",
+        &[(2, &[404, 0]), (2, &[5, 0]), (2, &[5, 2]), (1, &[0])],
+        &[Stays, Asked, Stays, Asked],
+    ),
+    // an open number beside a word
+    (
+        b"40*zeta_7",
+        &[(2, &[404, 0]), (2, &[404, 1]), (2, &[5, 1])],
+        &[Passed, Stays, Asked],
+    ),
+    // no token
+    (b"*", &[(1, &[0]), (5, &[])], &[Stays, Stays]),
+];
+
+/// What is told of the next row.
+fn next_told(
+    filter: &Filter,
+    row: (u32, &[u64]),
+    words: &[u64],
+    start: usize,
+    hit: &mut usize,
+) -> Told {
+    let known = filter.rejects_row(row.0, words, start, start.saturating_add(row.1.len()), hit);
+    let verdict = filter.verdict(row_of(0, 0, row.0, row.1));
+    match (known, verdict == Verdict::Rejected) {
+        (true, _) => Passed,
+        (false, true) => Asked,
+        (false, false) => Stays,
+    }
+}
+
+/// Whether all rows of a page are told so, and a row that is passed is rejected by itself.
+fn page_holds(alloc: Global, filter: &Filter, page: Page, want: &[Told]) -> Result<bool, Fail> {
+    let mut words = Vec::new(alloc);
+    for row in page {
+        words.extend_from_slice(row.1)?;
+    }
+    let mut start: usize = 0;
+    let mut hit = 0;
+    for (place, row) in page.iter().enumerate() {
+        let told = next_told(filter, *row, words.as_slice(), start, &mut hit);
+        let verdict = filter.verdict(row_of(0, 0, row.0, row.1));
+        if want.get(place) != Some(&told) || (told == Passed && verdict != Verdict::Rejected) {
+            return Ok(false);
+        }
+        start = start.saturating_add(row.1.len());
+    }
+    Ok(page.len() == want.len())
+}
+
+/// How many cases up to the first that is not as told.
+fn told_cases(alloc: Global, books: &Books, cases: &[Case]) -> Result<usize, Fail> {
+    for (place, case) in cases.iter().enumerate() {
+        let plan = plan_of(alloc, case.0)?;
+        let filter = Filter::new(alloc, &plan, books)?;
+        if !page_holds(alloc, &filter, case.1, case.2)? {
+            return Ok(place);
+        }
+    }
+    Ok(cases.len())
+}
+
+/// The books of these log types and words.
+fn books_of(alloc: Global) -> Result<Books, Fail> {
+    let mut books = Books::new(alloc, 1, 100);
+    add_types(&mut books, TYPES)?;
+    add_words(&mut books, WORDS)?;
+    Ok(books)
+}
+
+#[test]
+fn rows_by_the_words_of_their_page(rt: HostRuntime) -> Result<(), Fail> {
+    let books = books_of(rt.alloc())?;
+    let told = told_cases(rt.alloc(), &books, CASES)?;
+    if told == CASES.len() {
+        Ok(())
+    } else {
+        Err(Fail::new(told))
+    }
+}
+
+/// Whether the page's only row with the word that counts stays, behind so many rows without.
+fn stays_behind(alloc: Global, filter: &Filter, rows: usize) -> Result<bool, Fail> {
+    let mut words = Vec::new(alloc);
+    words.resize(rows, 0)?;
+    words.push(1)?;
+    words.push(3)?;
+    let mut hit = 0;
+    for place in 0..words.len() {
+        let end = place.saturating_add(1);
+        let known = filter.rejects_row(1, words.as_slice(), place, end, &mut hit);
+        if known == (place == rows) {
+            return Ok(false);
+        }
+    }
+    Ok(true)
+}
+
+#[test]
+fn a_word_at_each_place_of_a_page(rt: HostRuntime) -> Result<(), Fail> {
+    let books = books_of(rt.alloc())?;
+    let plan = plan_of(rt.alloc(), b"zeta_7")?;
+    let filter = Filter::new(rt.alloc(), &plan, &books)?;
+    for rows in 0..50 {
+        if !stays_behind(rt.alloc(), &filter, rows)? {
+            return Err(Fail::new(rows));
+        }
+    }
+    Ok(())
+}

@@ -1,0 +1,143 @@
+-- Rows of which no variable counts.
+use Rattle.std.proofs.Common.{◌≡◌, ℕ, ◌+◌, ◌-◌, ◌<◌, ◌≤◌, true, List, [], ◌∷◌, ◌++◌, length, get_or, drop, sym, ◌∙◌, ap, subst, arith, inl, inr}
+use Rattle.std.specs.Prelude.{All, None, Some, bit_or, slice_get, slice_index_or, slice_range}
+use Rattle.std.specs.Int.{cast_signed, w64}
+use Rattle.std.proofs.lemmas.Bool.{cases_lt}
+use Rattle.std.proofs.lemmas.List.{get_or-drop, get_or-take, get_or_default, length-drop, length-take}
+use Rattle.std.proofs.lemmas.Option.{get_or_from_slice_get, slice_get_within}
+use Rattle.column_store.specs.declared.row.Row.{Row}
+use Rattle.var_codec.specs.Laws.{OneWord}
+use Rattle.var_codec.specs.declared.Coded.TheVariants.{Decimal as DecimalWord, Whole as WholeWord}
+use Rattle.logtype_text.specs.declared.symbols.Kind.{Kind}
+use Rattle.logtype_text.specs.declared.symbols.Kind.TheVariants.{Whole, Word, Decimal}
+use Rattle.wild_match.specs.Matches.{Match}
+use Rattle.wild_match.specs.declared.pattern.Item.{Item}
+use Rattle.row_codec.specs.Means.{HasWord}
+use Rattle.query_plan.specs.Laws.{IsSearched}
+use Rattle.query_plan.specs.Needs.{around}
+use Rattle.query_plan.specs.Pieces.{wide_pieces}
+use Rattle.query_plan.specs.declared.pieces.Piece.{Piece}
+use Rattle.subquery_filter.specs.declared.filter.Filter.{Filter}
+use Rattle.subquery_filter.specs.declared.needing.Need.{Need}
+use Rattle.subquery_filter.specs.declared.needing.Need.TheVariants.{Never, Hit}
+use Rattle.subquery_filter.specs.declared.slots.TypeTest.{TypeTest}
+use Rattle.subquery_filter.specs.declared.token.Token.{Token}
+use Rattle.subquery_filter.specs.declared.verdicts.Verdict.{Verdict}
+use Rattle.subquery_filter.specs.declared.verdicts.Verdict.TheVariants.{Rejected, Tried}
+use Rattle.subquery_filter.specs.Filter.{AreNeeds, AreOpenBits, CountsNot, Has, IsFilter, IsNeed, IsNoCode, IsRowVerdict, LacksBare, MarksOpen, MarksVariable, NoneCounts, marks_at}
+use Rattle.subquery_filter.specs.NumberText.{is_number_part}
+use Rattle.subquery_filter.specs.StepsFilter.{HasEach}
+use Rattle.subquery_filter.specs.Tokens.{RowsBring}
+use Rattle.subquery_filter.specs.Verdicts.{CertainAlwaysMatches, RejectedNeverMatches}
+use Rattle.subquery_filter.proofs.BitLemmas.{has_left, has_none, has_right, has_self, has_through, has_zero}
+use Rattle.subquery_filter.proofs.ClosedLemmas.{are_coded, exact_marks}
+use Rattle.subquery_filter.proofs.FilterLemmas.{lacks_bits, push_cases, stamp_may, told_verdict}
+use Rattle.subquery_filter.proofs.NumberLemmas.{any_part, decimal_part, stands_in, whole_coded, whole_part}
+
+-- ---- what is needed, by the numbers of the log types
+
+pub needs_none : (tokens : List Token) (tests : List TypeTest) (stamped wanted : ℕ) (verdicts : List Verdict) (needs : List Need) → needs ≡ [] → (t : ℕ) (need : Need) → slice_get needs t ≡ Some need → IsNeed tokens tests stamped wanted verdicts t need
+needs_none tokens tests stamped wanted verdicts needs none t need at = absurd (let e : None ≡ Some need = ap (λ (l : List Need). slice_get l t) (sym none) ∙ at in cc)
+
+pub needs_step : (f : Filter) (verdicts : List Verdict) (i : ℕ) (old new : List Need) (need : Need) → length old ≡ i → new ≡ old ++ need ∷ [] → IsNeed f.tokens.items f.tests.items f.stamped f.wanted verdicts i need
+    → AreNeeds f verdicts old → AreNeeds f verdicts new
+needs_step f verdicts i old new need size is here before t other at =
+    elim (push_cases old need t other (subst (λ (l : List Need). slice_get l t ≡ Some other) is at)) [
+      | inl earlier ↦ before t other earlier
+      | inr (e, same) ↦
+          subst (λ n. IsNeed f.tokens.items f.tests.items f.stamped f.wanted verdicts n other) (sym (e ∙ size))
+          (subst (IsNeed f.tokens.items f.tests.items f.stamped f.wanted verdicts i) same here)
+    ]
+
+-- what a log type lacks that does not have these bits
+pub lacks_bare : (tokens : List Token) (test : TypeTest) (stamped wanted bits : ℕ) → AreOpenBits tokens bits → ¬ Has (bit_or (bit_or test.has stamped) bits) wanted → LacksBare tokens test stamped wanted
+lacks_bare tokens test stamped wanted bits numbers lacks =
+    let own : ℕ = bit_or test.has stamped in
+    record {
+      bits = bit_or own bits;
+      has = has_left own bits test.has (has_left test.has stamped test.has (has_self test.has));
+      stamps = has_left own bits stamped (has_right test.has stamped);
+      numbers = λ j d lt open_number. has_through (bit_or own bits) bits (slice_index_or tokens j d).bit (has_right own bits) (numbers j d lt open_number);
+      lacks = lacks;
+    }
+
+-- ---- words that do not count
+
+pub counts_none : (f : Filter) (block : List ℕ) (bits : ℕ) → HasEach f.marks block bits → bits ≡ 0 → All (λ k. All (IsNoCode k) block) f.tokens.items → All (CountsNot f) block
+counts_none f block bits each none codes j d lt =
+    let word : ℕ = slice_index_or block j d in
+    let marked : Has bits (marks_at f.marks word) = each word (j, lt, get_or_default block j word d lt) in
+    record {
+      marks = has_zero (marks_at f.marks word) (subst (λ (n : ℕ). Has n (marks_at f.marks word)) none marked);
+      code = λ i e less. codes i e less j d lt;
+    }
+
+pub counts_from : (f : Filter) (words : List ℕ) (from : ℕ) → NoneCounts f words from from
+counts_from f words from k low high lt = absurd (omega (arith, low, high))
+
+-- behind a block
+pub counts_past : (f : Filter) (words block : List ℕ) (from at size : ℕ) → at + size ≤ length words → block ≡ slice_range words at (at + size) → All (CountsNot f) block → NoneCounts f words from at → NoneCounts f words from (at + size)
+counts_past f words block from at size within is none before k low high lt = elim (cases_lt k at) [
+  | inl less ↦ before k low less lt
+  | inr past ↦
+      let rest : List ℕ = drop at words in
+      let long : length block ≡ size = omega (arith, ap length is, length-take (at + size - at) rest, length-drop at words, within) in
+      let there : get_or block (k - at) 0 ≡ get_or words k 0 =
+      ap (λ (l : List ℕ). get_or l (k - at) 0) is ∙ get_or-take (at + size - at) rest (k - at) 0 (omega (arith, past, high)) ∙ get_or-drop at words (k - at) 0 ∙ ap (λ (n : ℕ). get_or words n 0) (let e : at + (k - at) ≡ k = omega (arith, past) in e) in
+      subst (CountsNot f) there (none (k - at) 0 (omega (arith, long, past, high)))
+]
+
+pub counts_on : (f : Filter) (words : List ℕ) (from near to : ℕ) → NoneCounts f words from near → NoneCounts f words near to → NoneCounts f words from to
+counts_on f words from near to one two k low high lt = elim (cases_lt k near) [
+  | inl less ↦ one k low less lt
+  | inr past ↦ two k past high lt
+]
+
+-- the words of a row
+counts_in : (f : Filter) (words row : List ℕ) (start end hit : ℕ) → row ≡ slice_range words start end → end ≤ hit → NoneCounts f words start hit → (place word : ℕ) → slice_get row place ≡ Some word → CountsNot f word
+counts_in f words row start end hit is past none place word at =
+    let rest : List ℕ = drop start words in
+    let here : place < length row = slice_get_within row place word at in
+    let short : place < end - start = omega (arith, here, ap length is, length-take (end - start) rest) in
+    let within : start + place < length words = omega (arith, here, ap length is, length-take (end - start) rest, length-drop start words) in
+    let there : get_or words (start + place) 0 ≡ word =
+    sym (get_or-drop start words place 0) ∙ sym (get_or-take (end - start) rest place 0 short) ∙ ap (λ (l : List ℕ). get_or l place 0) (sym is) ∙ get_or_from_slice_get row place word 0 at in
+    subst (CountsNot f) there (none (start + place) (omega arith) (omega (arith, short, past)) within)
+
+-- ---- the row
+
+open_marks : (tokens : List Token) (text : List ℕ) (bits : ℕ) → AreOpenBits tokens bits → ((t : List ℕ) → Match (around t) text → is_number_part true t ≡ true) → MarksOpen tokens text bits
+open_marks tokens text bits openly part j d lt free m =
+    let k : Token = slice_index_or tokens j d in openly j d lt (free, part k.text (stands_in k text m))
+
+-- a variable with such a word brings no more than open tokens
+bare_variable : OneWord → (ps : List Piece) (types words : List (List ℕ)) (f : Filter) → IsFilter ps types words f → (bits : ℕ) → AreOpenBits f.tokens.items bits → (kind : Kind) (word : ℕ) (variable : List ℕ) → CountsNot f word → HasWord words kind variable word
+    → MarksVariable f.tokens.items variable bits
+bare_variable one ps types words f is bits openly Whole word variable none (n, coded, packs) =
+    exact_marks one f.tokens.items variable (WholeWord (cast_signed w64 word)) bits (whole_coded variable n word coded packs) (are_coded ps f.tokens.items is.asks.are) (λ j d lt same. absurd ((none.code j d lt).0 same))
+    (open_marks f.tokens.items variable bits openly (λ t m. any_part t (whole_part t variable n coded m)))
+bare_variable one ps types words f is bits openly Decimal word variable none coded =
+    exact_marks one f.tokens.items variable (DecimalWord word) bits coded (are_coded ps f.tokens.items is.asks.are) (λ j d lt same. absurd ((none.code j d lt).1 same))
+    (open_marks f.tokens.items variable bits openly (λ t m. decimal_part t variable word coded m))
+bare_variable one ps types words f is bits openly Word word variable none has = λ j d lt finds.
+    has_through bits 0 (slice_index_or f.tokens.items j d).bit (has_none bits)
+    (subst (λ (n : ℕ). Has n (slice_index_or f.tokens.items j d).bit) none.marks (is.marks word variable has.1 j d lt finds.0))
+
+-- a row of which no word counts is rejected, where its log type needs one that does
+bare_row : OneWord → RowsBring → (p : List Item) (types words : List (List ℕ)) (f : Filter) → IsFilter (wide_pieces p) types words f → (row : Row) (test : TypeTest) → slice_get f.tests.items row.log_type ≡ Some test → test.verdict ≡ Tried
+    → LacksBare f.tokens.items test f.stamped f.wanted → ((place word : ℕ) → slice_get row.words place ≡ Some word → CountsNot f word) → IsRowVerdict (wide_pieces p) types words row Rejected
+bare_row one law p types words f is row test at tried h none =
+    lacks_bits law (wide_pieces p) types words f is row test h.bits at tried h.has (stamp_may f types words (wide_pieces p) is row h.bits h.stamps)
+    (λ parts typed place kind word variable slot there has. bare_variable one (wide_pieces p) types words f is h.bits h.numbers kind word variable (none place word there) has) h.lacks
+
+pub needs_hit : OneWord → RowsBring → (f : Filter) (words : List ℕ) (start end hit t : ℕ) (need : Need) → need ≡ Hit → ((verdicts : List Verdict) → AreNeeds f verdicts f.needs.items → IsNeed f.tokens.items f.tests.items f.stamped f.wanted verdicts t need) → end ≤ hit
+    → NoneCounts f words start hit → (row : Row) → row.log_type ≡ t → row.words ≡ slice_range words start end → (p : List Item) (names texts : List (List ℕ)) → IsFilter (wide_pieces p) names texts f → IsRowVerdict (wide_pieces p) names texts row Rejected
+needs_hit one law f words start end hit t need same told past none row typed laid p names texts is =
+    let (test, at, tried, h) = subst (IsNeed f.tokens.items f.tests.items f.stamped f.wanted f.verdicts.items t) same (told f.verdicts.items is.asks.needs) in
+    bare_row one law p names texts f is row test (ap (slice_get f.tests.items) typed ∙ at) tried h (counts_in f words row.words start end hit laid past none)
+
+pub needs_never : RejectedNeverMatches → CertainAlwaysMatches → RowsBring → (f : Filter) (t : ℕ) (need : Need) → need ≡ Never → ((verdicts : List Verdict) → AreNeeds f verdicts f.needs.items → IsNeed f.tokens.items f.tests.items f.stamped f.wanted verdicts t need)
+    → (row : Row) → row.log_type ≡ t → (p : List Item) (names texts : List (List ℕ)) → IsSearched p → IsFilter (wide_pieces p) names texts f → IsRowVerdict (wide_pieces p) names texts row Rejected
+needs_never rejected certain law f t need same told row typed p names texts searched is =
+    let there : slice_get f.verdicts.items t ≡ Some Rejected = subst (IsNeed f.tokens.items f.tests.items f.stamped f.wanted f.verdicts.items t) same (told f.verdicts.items is.asks.needs) in
+    told_verdict rejected certain law p searched names texts f is row Rejected (ap (slice_get f.verdicts.items) typed ∙ there)
