@@ -24,8 +24,8 @@ const MESSAGES: &[&[u8]] = &[
 
 // A pattern, how many of the messages are passed over, and the lines that are printed: a pair over the
 // two sides of a word, within a word, within constants, behind a `\` and before one; with bytes of
-// stamps and of numbers; behind others that do not serve, or are common, as the last two bytes too; and
-// patterns that have none, or none that serves.
+// stamps and of numbers; behind others that do not serve, or are common, as the last two bytes too, and
+// before common ones; and patterns that have none, or none that serves.
 const ROWS: &[(&[u8], u32, &[u8])] = &[
     (b"=j", 7, b"f:1:k=job done;\n"),
     (b"b;", 6, b"f:2:job k=ab;\n"),
@@ -46,6 +46,7 @@ const ROWS: &[(&[u8], u32, &[u8])] = &[
     (b"3*ub", 7, b"f:4:2023-11-14 22:13:20 Tub\n"),
     (b"ob*=a", 7, b"f:2:job k=ab;\n"),
     (b"1? s", 0, b"f:5:took 12 s\n"),
+    (b"k=job", 7, b"f:1:k=job done;\n"),
     (b"jz", 8, b""),
 ];
 
