@@ -216,7 +216,10 @@ impl<'q, D: Disk> Context<'q, D> {
             → IsTold self.now.names → IsDecided self.now.names self.now.query row result }
         ensures kept { (f : Filter) → IsPage f page.old → IsPage f page.new }
     {
+        let query = self.query;
         if known {
+            // The pattern is one that was read.
+            let _ = query;
             return Verdict::Rejected;
         }
         self.decide_in(filter, rows.row(place), page)

@@ -1,4 +1,4 @@
-use Rattle.std.proofs.Common.{refl, subst}
+use Rattle.std.proofs.Common.{rules, subst}
 use Rattle.std.specs.Prelude.{slice_get}
 use Rattle.column_store.specs.declared.row.Row.{Row}
 use Rattle.query_plan.specs.Pieces.{wide_pieces}
@@ -16,7 +16,7 @@ returns-then-known-clause-decided g c = λ row here known page filtered told.
     let own = c.self.inside in
     let n : Named = named (g.D.Disk.state own.disk.value).seen own.held.value in
     subst (λ (s : Scope). (IsTold s.names → IsFilter (wide_pieces s.query.pattern) s.names.types s.names.words c.args.filter.now) → IsTold s.names → IsDecided s.names s.query row Rejected) c.self.view_is
-    (λ is_filter is_told. decided_known n own.query.now row c.args.filter.now (known refl) c.self.invariant.searched (is_filter is_told)) filtered told
+    (λ is_filter is_told. decided_known n own.query.now row c.args.filter.now (known (search rules)) c.self.invariant.searched (is_filter is_told)) filtered told
 
 pub returns-clause-decided : goal.returns-clause-decided
 returns-clause-decided g c = λ row here known page filtered told.
