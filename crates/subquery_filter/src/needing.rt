@@ -1,9 +1,8 @@
 //! Rows that are told by the words of their page: a row of most log types is rejected where none of
 //! its variables counts, whatever its slots are.
-ghost use Rattle.std.specs.Prelude.{◌≡◌, ◌≢◌, ◌≤◌, ◌+◌, ℕ, List, All, IfOk, IfSome, IsFalse, IsTrue, Some, length, slice_get, slice_range};
+ghost use Rattle.std.specs.Prelude.{◌≡◌, ◌≢◌, ◌≤◌, ◌+◌, List, All, IfOk, IfSome, IsFalse, IsTrue, Some, length, slice_get, slice_range};
 ghost use Rattle.std.specs.Int.{cast_signed, w64};
 ghost use Rattle.column_store.specs.declared.row.Row.{Row};
-ghost use Rattle.var_codec.specs.declared.Coded.TheVariants.{Decimal, Whole};
 ghost use Rattle.subquery_filter.specs.Filter.{AreNeeds, AreOpenBits, CountsNot, IsNeed, IsNoCode, IsOpenNumber, NoneCounts, Rejects};
 ghost use Rattle.subquery_filter.specs.StepsFilter.{HasEach};
 ghost use Rattle.subquery_filter.specs.declared.verdicts.Verdict.{Verdict};
@@ -193,7 +192,7 @@ impl Filter {
         at
     }
 
-    /// The next place of a word that counts. No branch is taken for each word before it.
+    /// The next place of a word that counts. Words before it are asked by blocks.
     // A function of its own, so that its loop has the registers.
     #[inline(never)]
     fn next_counted(&self, words: &[u64], from: usize) -> usize

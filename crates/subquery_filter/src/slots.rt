@@ -68,7 +68,7 @@ pub(crate) struct Sums {
 
 /// Where so many slots are listed, none of a further log type is: its rows are told by all their
 /// words. The log types that most messages have come first.
-pub(crate) const MOST_SLOTS: usize = 1 << 16;
+pub(crate) const MOST_SLOTS: usize = 1 << 20;
 
 /// No slot brings a bit.
 const NO_SUMS: Sums = Sums {
