@@ -1,5 +1,5 @@
 -- What files that were moved leave, from what became of them over the store.
-use Rattle.std.proofs.Common.{◌≡◌, ℕ, zero, suc, ◌+◌, ◌-◌, ◌&&◌, ◌==◌, Bool, true, false, if◌then◌else◌, List, [], ◌∷◌, ◌++◌, length, drop, sym, refl, ap, ◌∙◌, subst, arith, Option, None, Some, is_some, slice_get, All, ◌^◌, ◌<◌, ◌≤◌, ⊎_elim, inl, inr, append-nil, append_assoc, map, ap₂}
+use Rattle.std.proofs.Common.{◌≡◌, ℕ, zero, suc, ◌+◌, ◌-◌, ◌&&◌, ◌==◌, Bool, true, false, if◌then◌else◌, List, [], ◌∷◌, ◌++◌, length, drop, sym, refl, ap, ◌∙◌, subst, arith, Option, None, Some, is_some, slice_get, All, ◌^◌, ◌<◌, ◌≤◌, ⊎_elim, inl, inr, append_assoc, ap₂}
 use Rattle.std.specs.Prelude.{is_none}
 use Rattle.std.specs.List.{cons_option, filter, filter_map, Contains}
 use Rattle.std.specs.List.Sorted.{IsNonDecreasingBy}
@@ -31,7 +31,7 @@ use Rattle.disk_seal.specs.declared.fixed.StoreFixed.{StoreFixed}
 use Rattle.disk_seal.specs.Draft.{journal_seen}
 use Rattle.disk_seal.specs.Fixed.{KeeperPass, fixed_of}
 use Rattle.disk_seal.specs.May.{MayAdd}
-use Rattle.disk_seal.specs.Told.{IfTold, blanks, journal_in, mark, recorded}
+use Rattle.disk_seal.specs.Told.{IfTold, journal_in, mark}
 use Rattle.disk_seal.specs.View.{Kept, StoreView, journal_of, state_by}
 use Rattle.disk_seal.proofs.MarkLemmas.{stopped_by}
 use Rattle.disk_seal.proofs.ToldLemmas.{told_map, told_both}
@@ -61,10 +61,10 @@ use Rattle.archive_merge.specs.declared.merger.Merger.{Merger}
 use Rattle.archive_merge.specs.declared.merger.BookPasses.{BookPasses}
 use Rattle.archive_merge.specs.declared.merger.Second.{Second}
 use Rattle.archive_merge.specs.declared.merger.Stopped.{Stopped}
-use Rattle.archive_merge.specs.Behind.{HasStored, IsMovedFile, IsNewIn, IsOfFiles, MayBegin, OnlyRead, SecondView, second_by, HasRun, HasStopCause, HasStopped, IsDone, old_texts, places_for}
+use Rattle.archive_merge.specs.Behind.{HasStored, needed_of, IsMovedFile, IsNewIn, IsOfFiles, MayBegin, OnlyRead, SecondView, second_by, HasRun, HasStopCause, HasStopped, IsDone, old_texts, places_for}
 use Rattle.archive_merge.specs.Files.{AreCutAs, CameOver, IsNotDone}
 use Rattle.archive_merge.specs.Locked.{HasMovedOver, MayMoveAt}
-use Rattle.archive_merge.specs.Merger.{DidFile, MayMoveFile, MovesOn, PassesAdd, StaysRead, file_at, passes_of, HasMoved, IsOneOf, IsStopFor, books_of}
+use Rattle.archive_merge.specs.Merger.{DidFile, MayMoveFile, MovesOn, PassesAdd, StaysRead, file_at, needed_in, passes_of, HasMoved, IsOneOf, IsStopFor, books_of}
 use Rattle.archive_merge.specs.MergerLaws.{passes_in_is}
 use Rattle.archive_merge.specs.Runs.{HoldRun, nothing_so_far, SoFar}
 use Rattle.archive_merge.specs.Taken.{texts_by}
@@ -238,12 +238,12 @@ module _ {D : Type 0} {d : DiskGhosts D} (view : SecondView) (first : ℕ) (stop
 
 -- ---- the passes
 
-module _ {M E : Type 0} {N : NamesGhosts M} {H : DiskGhosts E} (types words : M → List (List ℕ)) where
+module _ {M E : Type 0} {N : NamesGhosts M} {H : DiskGhosts E} (types words : M → List (List ℕ)) (version : M → ℕ) (state : E → DiskState) where
   pub adds_between : (w v : Merger M E N H) (s : Second M E) (b c : BookPasses) → w.second ≡ s → w.passes ≡ Some b → v.passes ≡ Some c
-      → PassesAdd (texts_by types words w.second.names.now) (passes_of w) (passes_of v) → PassesAdd (texts_by types words s.names.now) b c
-  adds_between w v s b c same had has adds = subst (λ x. PassesAdd (texts_by types words x.names.now) b c) same
-      (subst (λ x. PassesAdd (texts_by types words w.second.names.now) x c) (passes_in_is w.passes w.full b had)
-      (subst (λ x. PassesAdd (texts_by types words w.second.names.now) (passes_of w) x) (passes_in_is v.passes v.full c has) adds))
+      → PassesAdd (needed_in types words version state w) (passes_of w) (passes_of v) → PassesAdd (needed_of (second_by types words version state s)) b c
+  adds_between w v s b c same had has adds = subst (λ x. PassesAdd (needed_of (second_by types words version state x)) b c) same
+      (subst (λ x. PassesAdd (needed_in types words version state w) x c) (passes_in_is w.passes w.full b had)
+      (subst (λ x. PassesAdd (needed_in types words version state w) (passes_of w) x) (passes_in_is v.passes v.full c has) adds))
 
 -- ---- the second archive
 

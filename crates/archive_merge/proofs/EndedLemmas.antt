@@ -46,9 +46,8 @@ use Rattle.ingest_workers.proofs.OpenSegmentLemmas.{same_numbers}
 use Rattle.archive_merge.specs.declared.file.Merged.{Merged}
 use Rattle.archive_merge.specs.declared.merger.BookPasses.{BookPasses}
 use Rattle.archive_merge.specs.declared.merger.Stopped.{Stopped}
-use Rattle.archive_merge.specs.Behind.{HasMerged, SecondView, HasStopCause, IsFullByBoth, old_texts, AreOfBoth, LackedRoom}
+use Rattle.archive_merge.specs.Behind.{HasMerged, needed_of, SecondView, HasStopCause, IsFullByBoth, old_texts, AreOfBoth, LackedRoom}
 use Rattle.archive_merge.specs.Ended.{AreOf, WereMovedOver, HasEnded}
-use Rattle.archive_merge.specs.InHand.{Texts}
 use Rattle.archive_merge.specs.Merger.{MayName, PassesAdd}
 
 one_still : (P : List ℕ → Type 0) (p q : BookPass) → AddsOnly P p q → AreStill (p ∷ []) (q ∷ [])
@@ -98,14 +97,14 @@ module _ {G : Ghosts BookState (List ℕ) ℕ} where
     limit = ap limit_in ((joined.about_is ∙ (read.about_is ∙ still.about_is)) ∙ (sym fresh.about_is ∙ sym adds.goes.still.about_is));
   }
 
-  pub both_more : (old : Texts) (t1 t2 t_end w1 w2 w_end : BookMaker G) (t_reader w_reader : BookPass) (b c : BookPasses) → IsStillBy t1 t2 → IsStillBy w1 w2 → IsFreshOf t1 (pass_in b.types) → IsFreshOf w1 (pass_in b.words) → PassesAdd old b c
+  pub both_more : (P : Which → List ℕ → Type 0) (t1 t2 t_end w1 w2 w_end : BookMaker G) (t_reader w_reader : BookPass) (b c : BookPasses) → IsStillBy t1 t2 → IsStillBy w1 w2 → IsFreshOf t1 (pass_in b.types) → IsFreshOf w1 (pass_in b.words) → PassesAdd P b c
       → HasEnded t2 t_end w2 w_end t_reader w_reader c → (book : Which) → IsMore (book_of (books_by (pass_in c.types) (pass_in c.words)) book) (book_of (books_at t_end w_end) book)
-  both_more old t1 t2 t_end w1 w2 w_end t_reader w_reader b c ts ws t_fresh w_fresh adds ended WhichTypes = known_more (Contains old.types) t1 t2 ended.types_middle t_end t_reader (pass_in b.types) (pass_in c.types) ts t_fresh adds.types ended.types_read ended.types_ended
-  both_more old t1 t2 t_end w1 w2 w_end t_reader w_reader b c ts ws t_fresh w_fresh adds ended WhichWords = known_more (Contains old.words) w1 w2 ended.words_middle w_end w_reader (pass_in b.words) (pass_in c.words) ws w_fresh adds.words ended.words_read ended.words_ended
+  both_more P t1 t2 t_end w1 w2 w_end t_reader w_reader b c ts ws t_fresh w_fresh adds ended WhichTypes = known_more (P WhichTypes) t1 t2 ended.types_middle t_end t_reader (pass_in b.types) (pass_in c.types) ts t_fresh adds.types ended.types_read ended.types_ended
+  both_more P t1 t2 t_end w1 w2 w_end t_reader w_reader b c ts ws t_fresh w_fresh adds ended WhichWords = known_more (P WhichWords) w1 w2 ended.words_middle w_end w_reader (pass_in b.words) (pass_in c.words) ws w_fresh adds.words ended.words_read ended.words_ended
 
   -- passes that named are of the makers' locks
-  pub are_of : (old : Texts) (t1 t2 w1 w2 : BookMaker G) (b c : BookPasses) → PassesAdd old b c → IsStillBy t1 t2 → IsStillBy w1 w2 → IsFreshOf t1 (pass_in b.types) → IsFreshOf w1 (pass_in b.words) → AreOf t2 w2 c
-  are_of old t1 t2 w1 w2 b c adds ts ws t_fresh w_fresh = record {
+  pub are_of : (P : Which → List ℕ → Type 0) (t1 t2 w1 w2 : BookMaker G) (b c : BookPasses) → PassesAdd P b c → IsStillBy t1 t2 → IsStillBy w1 w2 → IsFreshOf t1 (pass_in b.types) → IsFreshOf w1 (pass_in b.words) → AreOf t2 w2 c
+  are_of P t1 t2 w1 w2 b c adds ts ws t_fresh w_fresh = record {
     of_types = adds.types.goes.still.lock ∙ (t_fresh.lock ∙ sym ts.lock);
     of_words = adds.words.goes.still.lock ∙ (w_fresh.lock ∙ sym ws.lock);
   }
@@ -148,16 +147,16 @@ module _ {D : Type 0} {d : DiskGhosts D} {G : Ghosts BookState (List ℕ) ℕ} (
   has_merged t_saved w_saved to wo h t_owned w_owned t_apart w_apart = record {
     store = h.store;
     stored = h.stored;
-    types = by_told told (All (Contains view.texts.types) (types_of fresh))
-        (texts_given (Contains view.texts.types) IsFairType 0 told before.header.types_limit s.header.types_limit (types_of (told_entries (state_of before))) (types_of (journal_of s)) (types_of fresh)
+    types = by_told told (All (needed_of view WhichTypes) (types_of fresh))
+        (texts_given (needed_of view WhichTypes) IsFairType 0 told before.header.types_limit s.header.types_limit (types_of (told_entries (state_of before))) (types_of (journal_of s)) (types_of fresh)
         t_saved s.types_saved types types' s.types to h.of_types t_owned (subst (λ b. KnowsBook IsFairType 0 s.header.types_limit b s.types s.types_saved (types_of (journal_of s))) same_told h.stored.left_by.kept.types)
         (ap types_of h.stored.grown ∙ types_joined (told_entries (state_of before)) fresh))
-        (λ untold. subst (λ es. All (Contains view.texts.types) (types_of es)) (sym (no_more untold)) (All-nil (Contains view.texts.types)));
-    words = by_told told (All (Contains view.texts.words) (words_of fresh))
-        (texts_given (Contains view.texts.words) IsFairWord WORDS_FIRST told before.header.words_limit s.header.words_limit (words_of (told_entries (state_of before))) (words_of (journal_of s)) (words_of fresh)
+        (λ untold. subst (λ es. All (needed_of view WhichTypes) (types_of es)) (sym (no_more untold)) (All-nil (needed_of view WhichTypes)));
+    words = by_told told (All (needed_of view WhichWords) (words_of fresh))
+        (texts_given (needed_of view WhichWords) IsFairWord WORDS_FIRST told before.header.words_limit s.header.words_limit (words_of (told_entries (state_of before))) (words_of (journal_of s)) (words_of fresh)
         w_saved s.words_saved words words' s.words wo h.of_words w_owned (subst (λ b. KnowsBook IsFairWord WORDS_FIRST s.header.words_limit b s.words s.words_saved (words_of (journal_of s))) same_told h.stored.left_by.kept.words)
         (ap words_of h.stored.grown ∙ words_joined (told_entries (state_of before)) fresh))
-        (λ untold. subst (λ es. All (Contains view.texts.words) (words_of es)) (sym (no_more untold)) (All-nil (Contains view.texts.words)));
+        (λ untold. subst (λ es. All (needed_of view WhichWords) (words_of es)) (sym (no_more untold)) (All-nil (needed_of view WhichWords)));
     why = λ one is. let was = h.why one is in record {
       place = was.place;
       file = was.file;
@@ -183,11 +182,11 @@ module _ {D : Type 0} {d : DiskGhosts D} {G : Ghosts BookState (List ℕ) ℕ} (
 
       full : (book : Which) (count : ℕ) → WasFull (Contains (old_texts view book)) count (book_of (books_at types' words') book) → IsFullByBoth view before book count
       full WhichTypes count is = if_told told _ (λ told_is.
-          full_given (Contains view.texts.types) IsFairType 0 told before.header.types_limit s.header.types_limit (types_of (told_entries (state_of before))) (types_of (journal_of s)) (types_of fresh)
+          full_given (needed_of view WhichTypes) IsFairType 0 told before.header.types_limit s.header.types_limit (types_of (told_entries (state_of before))) (types_of (journal_of s)) (types_of fresh)
           t_saved s.types_saved types types' s.types to h.of_types t_owned (subst (λ b. KnowsBook IsFairType 0 s.header.types_limit b s.types s.types_saved (types_of (journal_of s))) same_told h.stored.left_by.kept.types)
           (ap types_of h.stored.grown ∙ types_joined (told_entries (state_of before)) fresh) told_is t_apart (Contains view.texts.types) count is)
       full WhichWords count is = if_told told _ (λ told_is.
-          full_given (Contains view.texts.words) IsFairWord WORDS_FIRST told before.header.words_limit s.header.words_limit (words_of (told_entries (state_of before))) (words_of (journal_of s)) (words_of fresh)
+          full_given (needed_of view WhichWords) IsFairWord WORDS_FIRST told before.header.words_limit s.header.words_limit (words_of (told_entries (state_of before))) (words_of (journal_of s)) (words_of fresh)
           w_saved s.words_saved words words' s.words wo h.of_words w_owned (subst (λ b. KnowsBook IsFairWord WORDS_FIRST s.header.words_limit b s.words s.words_saved (words_of (journal_of s))) same_told h.stored.left_by.kept.words)
           (ap words_of h.stored.grown ∙ words_joined (told_entries (state_of before)) fresh) told_is w_apart (Contains view.texts.words) count is)
 
@@ -209,9 +208,9 @@ module _ {D : Type 0} {d : DiskGhosts D} {G : Ghosts BookState (List ℕ) ℕ} (
           let more_types = drop (length before_types) r.types in let more_words = drop (length before_words) r.words in
           let grown_types = ap types_of h.stored.grown ∙ types_joined (told_entries (state_of before)) fresh in
           let grown_words = ap words_of h.stored.grown ∙ words_joined (told_entries (state_of before)) fresh in
-          let on_types = noted_behind (Contains view.texts.types) IsFairType 0 told before.header.types_limit s.header.types_limit (types_of (told_entries (state_of before))) (types_of (journal_of s)) (types_of fresh)
+          let on_types = noted_behind (needed_of view WhichTypes) IsFairType 0 told before.header.types_limit s.header.types_limit (types_of (told_entries (state_of before))) (types_of (journal_of s)) (types_of fresh)
           t_saved s.types_saved types types' s.types to h.of_types t_owned these_types grown_types told_is before_types r.types (book_front WhichTypes r.front (journal_of s) on) r.has_types in
-          let on_words = noted_behind (Contains view.texts.words) IsFairWord WORDS_FIRST told before.header.words_limit s.header.words_limit (words_of (told_entries (state_of before))) (words_of (journal_of s)) (words_of fresh)
+          let on_words = noted_behind (needed_of view WhichWords) IsFairWord WORDS_FIRST told before.header.words_limit s.header.words_limit (words_of (told_entries (state_of before))) (words_of (journal_of s)) (words_of fresh)
           w_saved s.words_saved words words' s.words wo h.of_words w_owned these_words grown_words told_is before_words r.words (book_front WhichWords r.front (journal_of s) on) r.has_words in record {
             place = r.place;
             there = r.there;
@@ -220,10 +219,10 @@ module _ {D : Type 0} {d : DiskGhosts D} {G : Ghosts BookState (List ℕ) ℕ} (
             ends = r.ends;
             types = before_types ++ more_types;
             words = before_words ++ more_words;
-            has_types = texts_behind (Contains view.texts.types) IsFairType 0 told before.header.types_limit s.header.types_limit (types_of (told_entries (state_of before))) (types_of (journal_of s)) (types_of fresh)
+            has_types = texts_behind (needed_of view WhichTypes) IsFairType 0 told before.header.types_limit s.header.types_limit (types_of (told_entries (state_of before))) (types_of (journal_of s)) (types_of fresh)
                 t_saved s.types_saved types types' s.types to h.of_types t_owned these_types grown_types told_is t_apart before_types r.types
                 (book_front WhichTypes (told_entries (state_of before)) r.front since) (book_front WhichTypes r.front (journal_of s) on) r.has_types;
-            has_words = texts_behind (Contains view.texts.words) IsFairWord WORDS_FIRST told before.header.words_limit s.header.words_limit (words_of (told_entries (state_of before))) (words_of (journal_of s)) (words_of fresh)
+            has_words = texts_behind (needed_of view WhichWords) IsFairWord WORDS_FIRST told before.header.words_limit s.header.words_limit (words_of (told_entries (state_of before))) (words_of (journal_of s)) (words_of fresh)
                 w_saved s.words_saved words words' s.words wo h.of_words w_owned these_words grown_words told_is w_apart before_words r.words
                 (book_front WhichWords (told_entries (state_of before)) r.front since) (book_front WhichWords r.front (journal_of s) on) r.has_words;
             segment = r.segment;

@@ -5,7 +5,7 @@ use Rattle.std.specs.List.{Contains, flat_map}
 use Rattle.std.proofs.lemmas.List.{append-nil, get_or_append_left}
 use Rattle.std.proofs.lemmas.List.Concat.{flat_map-cons}
 use Rattle.std.proofs.lemmas.List.Sums.{sum_by-append, sum_by-cons, sum_by-take-le}
-use Rattle.std.proofs.lemmas.Option.{slice_get_within}
+use Rattle.std.proofs.lemmas.Option.{get_or_from_slice_get, slice_get_within}
 use mathlib.Core.List.{IsPrefix}
 use Rattle.logtype_text.specs.declared.symbols.Kind.{Kind}
 use Rattle.column_store.specs.declared.row.Row.{Row}
@@ -15,17 +15,20 @@ use Rattle.row_codec.specs.Numbers.{kinds_from, numbers_of_row, word_numbers}
 use Rattle.row_codec.specs.Naming.{Known}
 use Rattle.row_codec.proofs.GrowthLemmas.{grows_self, grows_then}
 use Rattle.row_codec.proofs.MeansLemmas.{canonical_stays}
-use Rattle.row_rename.specs.Renamed.{AreRenamed, IsRenamed, used_in}
+use Rattle.row_rename.specs.Renamed.{AreRenamed, IsRenamed, IsTextOfRow, used_in}
 use Rattle.row_rename.specs.declared.refusal.RenameRefusal.{RenameRefusal}
 use Rattle.row_rename.specs.declared.refusal.RenameRefusal.TheVariants.{Full, Damaged, OutOfMemory}
 use Rattle.row_rename.specs.declared.tables.Tables.{Tables}
 use Rattle.row_rename.specs.Tables.{AreTables, HasNamedBoth}
 use Rattle.row_rename.proofs.RenameLemmas.{renamed_means_same}
+use Rattle.row_rename.proofs.TableLemmas.{grown_weaker}
 use Rattle.row_codec.specs.declared.namer.Which.{Which}
+use Rattle.row_codec.specs.declared.namer.Which.TheVariants.{Types, Words}
 use Rattle.archive_merge.specs.declared.hand.Hand.{Hand}
 use Rattle.archive_merge.specs.declared.stop.Stop.TheVariants.{Full as StopFull, SecondDamaged, SecondFault}
 use Rattle.archive_merge.specs.Stops.{stop_by}
 use Rattle.archive_merge.specs.InHand.{HasInHand, MayTake, MayTakeAll, SameMarks, TakesAll, TakesRow, Texts}
+use Rattle.archive_merge.specs.Needed.{IsTextOfRows}
 
 -- ---- lists of rows
 
@@ -145,15 +148,28 @@ may_take old before middle rows i row hand hand_mid at all may = record {
 
 -- ---- what is named, and the marks
 
-pub both_none : (types words : List (List ℕ)) (t w : Known) (tables : Tables) → AreTables types words t.texts w.texts tables → HasNamedBoth types words t t w w tables
-both_none types words t w tables are = record { types_grown = grows_self (Contains types) t; words_grown = grows_self (Contains words) w; kept = are }
+pub both_none : (P : Which → List ℕ → Type 0) (types words : List (List ℕ)) (t w : Known) (tables : Tables) → AreTables types words t.texts w.texts tables → HasNamedBoth P types words t t w w tables
+both_none P types words t w tables are = record { types_grown = grows_self (P Types) t; words_grown = grows_self (P Words) w; kept = are }
 
-pub both_then : (types words : List (List ℕ)) (ta tb tc wa wb wc : Known) (tables tables_new : Tables) → HasNamedBoth types words ta tb wa wb tables → HasNamedBoth types words tb tc wb wc tables_new → HasNamedBoth types words ta tc wa wc tables_new
-both_then types words ta tb tc wa wb wc tables tables_new one two = record {
-  types_grown = grows_then (Contains types) ta tb tc one.types_grown two.types_grown;
-  words_grown = grows_then (Contains words) wa wb wc one.words_grown two.words_grown;
+pub both_then : (P : Which → List ℕ → Type 0) (types words : List (List ℕ)) (ta tb tc wa wb wc : Known) (tables tables_new : Tables)
+    → HasNamedBoth P types words ta tb wa wb tables → HasNamedBoth P types words tb tc wb wc tables_new → HasNamedBoth P types words ta tc wa wc tables_new
+both_then P types words ta tb tc wa wb wc tables tables_new one two = record {
+  types_grown = grows_then (P Types) ta tb tc one.types_grown two.types_grown;
+  words_grown = grows_then (P Words) wa wb wc one.words_grown two.words_grown;
   kept = two.kept;
 }
+
+-- one of the rows was named
+pub row_named : (old : Texts) (rows : List Row) (i : ℕ) (row : Row) (t t_new w w_new : Known) (tables : Tables) → slice_get rows i ≡ Some row
+    → HasNamedBoth (IsTextOfRow old.types old.words row) old.types old.words t t_new w w_new tables → HasNamedBoth (IsTextOfRows old rows) old.types old.words t t_new w w_new tables
+row_named old rows i row t t_new w w_new tables at named = record {
+  types_grown = grown_weaker (IsTextOfRow old.types old.words row Types) (IsTextOfRows old rows Types) (λ text needs. (row, there, needs)) t t_new named.types_grown;
+  words_grown = grown_weaker (IsTextOfRow old.types old.words row Words) (IsTextOfRows old rows Words) (λ text needs. (row, there, needs)) w w_new named.words_grown;
+  kept = named.kept;
+}
+  where
+    there : Contains rows row
+    there = (i, slice_get_within rows i row at, get_or_from_slice_get rows i row row at)
 
 pub marks_then : (a b c : Hand) → SameMarks a b → SameMarks b c → SameMarks a c
 marks_then a b c one two = record { file = two.file ∙ one.file; first = two.first ∙ one.first; last = two.last ∙ one.last; ended = two.ended ∙ one.ended }

@@ -5,6 +5,7 @@ pub mod HandLemmas
 pub mod LockLemmas
 pub mod MergerLemmas
 pub mod MergingLemmas
+pub mod NeededLemmas
 pub mod NextLemmas
 pub mod PlaceLemmas
 pub mod RunLemmas

@@ -8,7 +8,7 @@ use Rattle.logtype_text.specs.Fair.{IsFairType, IsFairWord}
 use Rattle.row_codec.specs.declared.names.Names.{Ghosts as NamesGhosts}
 use Rattle.archive_open.specs.declared.segments.SegmentPlace.{SegmentPlace}
 use Rattle.archive_decode.specs.StepsHeld.{is_of}
-use Rattle.std.specs.List.{filter}
+use Rattle.std.specs.List.{Contains, filter}
 use Rattle.std.specs.List.Sorted.{IsNonDecreasingBy}
 use Rattle.disk_seal.specs.Fixed.{KeeperPass}
 use Rattle.archive_merge.specs.declared.cause.MergeCause.{MergeCause}
@@ -19,10 +19,11 @@ use Rattle.archive_merge.specs.declared.merger.Merger.{Merger}
 use Rattle.archive_merge.specs.declared.merger.Stopped.{Stopped}
 use Rattle.archive_merge.specs.Causes.{HasMoveCause}
 use Rattle.archive_merge.specs.Files.{CameOver}
+use Rattle.archive_merge.specs.Needed.{IsNeeded}
 use Rattle.archive_merge.specs.Runs.{HoldRun, SoFar, nothing_so_far}
 use Rattle.archive_merge.specs.Taken.{Serves, texts_by}
-use Rattle.archive_merge.specs.Merger.{DidFile, GoesWith, IsIdle, IsOneOf, IsStopFor, MayName, MovesOn, PassesAdd, StaysRead, books_of, file_at, passes_of}
-use Rattle.archive_merge.specs.MergerLaws.{passes_in_is}
+use Rattle.archive_merge.specs.Merger.{DidFile, GoesWith, IsIdle, IsOneOf, IsStopFor, MayName, MovesOn, PassesAdd, StaysRead, books_of, file_at, needed_in, passes_of}
+use Rattle.archive_merge.specs.MergerLaws.{passes_in_is, passes_wider}
 
 pub none_some : {A : Type 0} (o : Option A) → is_some o ≡ false → o ≡ None
 none_some None is = refl
@@ -50,13 +51,16 @@ module _ {M E D : Type 0} {G : NamesGhosts M} {H : DiskGhosts E} (types words : 
         (subst (λ x. Serves (version w.second.names.now) (texts_by types words w.second.names.now) (books_of x) v.second.taker) (sym after_is) goes.serves);
   }
 
-  pub moves_on : v.first ≡ w.first → (state_second w.second.disk.now).faults ≤ (state_second v.second.disk.now).faults → PassesAdd (texts_by types words w.second.names.now) b c → w.stop ≡ None
+  pub moves_on : v.first ≡ w.first → (state_second w.second.disk.now).faults ≤ (state_second v.second.disk.now).faults
+      → (places : List SegmentPlace) → ((place : SegmentPlace) → Contains places place → Contains w.second.segments.now place) → PassesAdd (IsNeeded (texts_by types words w.second.names.now) (state_second w.second.disk.now).seen places) b c → w.stop ≡ None
       → (js js' : List Merged) → ((s : Stopped) → v.stop ≡ Some s → IsOneOf js s) → MovesOn types words version state_second js js' w v
-  moves_on first later adds none js js' stopped = record {
+  moves_on first later places among adds none js js' stopped = record {
     first_is = first;
     second_is = stays;
     later = later;
-    adds = subst (λ x. PassesAdd (texts_by types words w.second.names.now) x (passes_of v)) (sym before_is) (subst (λ x. PassesAdd (texts_by types words w.second.names.now) b x) (sym after_is) adds);
+    adds = subst (λ x. PassesAdd (needed_in types words version state_second w) x (passes_of v)) (sym before_is)
+        (subst (λ x. PassesAdd (needed_in types words version state_second w) b x) (sym after_is)
+        (passes_wider (IsNeeded (texts_by types words w.second.names.now) (state_second w.second.disk.now).seen places) (needed_in types words version state_second w) (λ book t (place, there, is). (place, among place there, is)) b c adds));
     stop_is = λ some. absurd (some none);
     stopped_by = λ was s is. stopped s is;
   }

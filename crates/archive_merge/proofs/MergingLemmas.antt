@@ -47,7 +47,7 @@ use Rattle.archive_merge.specs.declared.merger.Second.{Second}
 use Rattle.archive_merge.specs.declared.merger.Stopped.{Stopped}
 use Rattle.archive_merge.specs.declared.refusal.MergeRefusal.{MergeRefusal}
 use Rattle.archive_merge.specs.declared.refusal.MergeRefusal.TheVariants.{LongName, Names, OutOfMemory, Stopped as StoppedAt}
-use Rattle.archive_merge.specs.Behind.{AreOfBoth, HasMerged, HasRun, HasStopCause, IsFullByBoth, IsMovedFile, IsNewIn, IsDone, IsOfFiles, LackedRoom, MayBegin, OnlyRead, SecondView, old_texts, places_for}
+use Rattle.archive_merge.specs.Behind.{AreOfBoth, HasMerged, HasRun, HasStopCause, IsFullByBoth, IsMovedFile, IsNewIn, IsDone, IsOfFiles, LackedRoom, MayBegin, OnlyRead, SecondView, needed_of, old_texts, places_for}
 use Rattle.name_records.specs.Left.{HasGoneOn, LeavesEntries, StandsForOr}
 use Rattle.archive_merge.specs.Files.{AreCutAs}
 use Rattle.archive_merge.specs.Merging.{EndsMerge, HasMergeCause, IsMergedFile, WasOnlyRead, done_by}
@@ -219,8 +219,8 @@ module _ {D : Type 0} {d : DiskGhosts D} (lawful : (x : D) → IsLawful (d.state
       named = refl;
       fresh = [];
       others = All-nil (IsOfFiles []);
-      types = All-nil (Contains s.texts.types);
-      words = All-nil (Contains s.texts.words);
+      types = All-nil (needed_of s WhichTypes);
+      words = All-nil (needed_of s WhichWords);
       each = λ i file at. absurd (cc (at));
       left = by_told (is_some (state_of j).disk.seen) (λ told.
           subst (λ es. LeavesEntries j.header (told_entries (state_of j)) es (state_of j).disk (state_of j).disk) (sym (append-nil (told_entries (state_of j)))) (same_left told));
@@ -248,8 +248,8 @@ module _ {D : Type 0} {d : DiskGhosts D} (lawful : (x : D) → IsLawful (d.state
         named = are.are;
         fresh = [];
         others = All-nil (IsOfFiles files);
-        types = All-nil (Contains s.texts.types);
-        words = All-nil (Contains s.texts.words);
+        types = All-nil (needed_of s WhichTypes);
+        words = All-nil (needed_of s WhichWords);
         each = λ i file at. not_moved s i (state_of before) are.naming (take (length files) names) file are.are (fresh i file at).messages_none (fresh i file at).not_whole
             (subst (λ es. IfTold (is_some (state_of before).disk.seen) (FrontHolds before.header (told_entries (state_of before) ++ es) file.file [] false false)) (sym (append-nil are.naming)) (empty i file at));
         left = subst (λ es. IfTold (is_some (state_of before).disk.seen) (LeavesEntries before.header (told_entries (state_of before)) (told_entries (state_of before) ++ es) (state_of before).disk (state_of mid).disk)) (sym (append-nil are.naming)) are.left;
@@ -345,8 +345,8 @@ module _ {D : Type 0} {d : DiskGhosts D} (lawful : (x : D) → IsLawful (d.state
           named = are.are;
           fresh = [];
           others = All-nil (IsOfFiles files);
-          types = All-nil (Contains s.texts.types);
-          words = All-nil (Contains s.texts.words);
+          types = All-nil (needed_of s WhichTypes);
+          words = All-nil (needed_of s WhichWords);
           each = λ i file at.
               let new = named_holds first some are.naming (state_of before) (state_of mid) may holds has i (omega (arith, counted_names, slice_get_within files i file at)) in
               not_moved s i (state_of before) are.naming some file are.are (fresh_files i file at).messages_none (fresh_files i file at).not_whole
@@ -462,9 +462,9 @@ module _ {D : Type 0} {d : DiskGhosts D} (lawful : (x : D) → IsLawful (d.state
 
         full_on : (book : Which) (count : ℕ) → IsFullByBoth s mid book count → IsFullByBoth s before book count
         full_on book count full = by_told (is_some (state_of before).disk.seen) (λ told.
-            subst (λ texts. (count ≡ limit_of (header_limits before.header) book) × IsFullBy (λ t. Contains texts t ⊎ Contains (old_texts s book) t) (Contains (old_texts s book)) count) (texts_same book (told_entries (state_of before)) are.naming some are.are)
-            (subst (λ es. (count ≡ limit_of (header_limits before.header) book) × IsFullBy (λ t. Contains (book_texts book es) t ⊎ Contains (old_texts s book) t) (Contains (old_texts s book)) count) (of_told (is_some (state_of before).disk.seen) told has.entries)
-            (subst (λ h. (count ≡ limit_of (header_limits h) book) × IsFullBy (λ t. Contains (book_texts book (told_entries (state_of mid))) t ⊎ Contains (old_texts s book) t) (Contains (old_texts s book)) count) has.header
+            subst (λ texts. (count ≡ limit_of (header_limits before.header) book) × IsFullBy (λ t. Contains texts t ⊎ needed_of s book t) (Contains (old_texts s book)) count) (texts_same book (told_entries (state_of before)) are.naming some are.are)
+            (subst (λ es. (count ≡ limit_of (header_limits before.header) book) × IsFullBy (λ t. Contains (book_texts book es) t ⊎ needed_of s book t) (Contains (old_texts s book)) count) (of_told (is_some (state_of before).disk.seen) told has.entries)
+            (subst (λ h. (count ≡ limit_of (header_limits h) book) × IsFullBy (λ t. Contains (book_texts book (told_entries (state_of mid))) t ⊎ needed_of s book t) (Contains (old_texts s book)) count) has.header
             (of_told (is_some (state_of mid).disk.seen) (has.tells ∙ told) full))))
 
         room_on : (file done end need : ℕ) → LackedRoom (AreOfBoth s) s first file done mid after end need → is_some (state_of before).disk.seen ≡ true → LackedRoom (AreOfBoth s) s first file done before after end need

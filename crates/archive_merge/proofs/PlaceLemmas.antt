@@ -1,7 +1,9 @@
 -- Of places that are sorted by file, those of one file.
 use Rattle.std.proofs.Common.{◌≡◌, ℕ, zero, suc, ◌<◌, ◌≤◌, List, [], ◌∷◌, Bool, true, false, arith, cond, drop, leb, length, ltb, refl, sym, ap, subst, take}
 use Rattle.std.specs.Prelude.{◌==◌}
-use Rattle.std.specs.List.{AllWithin, filter}
+use Rattle.std.specs.List.{AllWithin, Contains, filter}
+use Rattle.std.proofs.lemmas.List.{take-append-drop}
+use Rattle.std.proofs.lemmas.List.Elements.{Contains-append_left, Contains-append_right}
 use Rattle.std.proofs.lemmas.Bool.{eq-eqb, leb-false, leb-true, ltb-false, ltb-true, ne_eqb}
 use Rattle.archive_open.specs.declared.segments.SegmentPlace.{SegmentPlace}
 use Rattle.archive_decode.specs.StepsHeld.{is_of}
@@ -44,3 +46,11 @@ module _ (number : ℕ) where
   cut_filter (x ∷ xs) (suc i) n low high up none within =
       subst (λ b. take n (drop i xs) ≡ cond b (x ∷ filter (is_of number) xs) (filter (is_of number) xs)) (sym (below (file_at x) number (low 0 x (omega arith) (omega arith))))
       (cut_filter xs i n (λ k d le lt. low (suc k) d (omega arith) (omega (arith, lt))) (λ k d le lt. high (suc k) d (omega (arith, le)) (omega (arith, lt))) up none (omega (arith, within)))
+
+-- ---- among the first, and among those behind
+
+pub contains_take : {A : Type 0} (n : ℕ) (xs : List A) (x : A) → Contains (take n xs) x → Contains xs x
+contains_take n xs x there = subst (λ l. Contains l x) (take-append-drop n xs) (Contains-append_left (take n xs) (drop n xs) x there)
+
+pub contains_drop : {A : Type 0} (n : ℕ) (xs : List A) (x : A) → Contains (drop n xs) x → Contains xs x
+contains_drop n xs x there = subst (λ l. Contains l x) (take-append-drop n xs) (Contains-append_right (take n xs) (drop n xs) x there)

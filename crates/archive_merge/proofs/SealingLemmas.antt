@@ -51,8 +51,9 @@ use Rattle.archive_merge.specs.declared.stop.Stop.TheVariants.{Full as StopFull,
 use Rattle.archive_merge.specs.declared.taker.Taker.{Taker}
 use Rattle.archive_merge.specs.Causes.{HasMoveCause, HasNoRoomNow, IsOfSealing, cause_by, cause_of_sealing}
 use Rattle.archive_merge.specs.InHand.{HasInHand, Texts}
+use Rattle.archive_merge.specs.Needed.{IsNeeded, IsTextThere}
 use Rattle.archive_merge.specs.Next.{TakesNext}
-use Rattle.archive_merge.specs.PassLaws.{adds_none, adds_then, goes_self, goes_then, owns_none, owns_then}
+use Rattle.archive_merge.specs.PassLaws.{adds_none, adds_then, adds_wider, goes_self, goes_then, owns_none, owns_then}
 use Rattle.archive_merge.specs.Sealing.{AddsTexts, IsEmptied, LacksRoom, MaySeal, MovesSegment, StandsBehind, books_in, texts_seen}
 use Rattle.archive_merge.specs.Taken.{Books, KnowsMore, Serves}
 
@@ -115,28 +116,36 @@ module _ {R A B C : Type 0} where
 
   -- ---- what both passes add
 
-  pub adds_named : (old : Texts) (m n : LockNamer R A B C) → BothGoOn m n → KnowsMore old (books_in m) (books_in n) → AddsTexts old m n
-  adds_named old m n both more = record {
+  pub adds_named : (P : Which → List ℕ → Type 0) (m n : LockNamer R A B C) → BothGoOn m n → KnowsMore P (books_in m) (books_in n) → AddsTexts P m n
+  adds_named P m n both more = record {
     types = record { goes = both.types.goes; grown = more.types; own = both.types.own };
     words = record { goes = both.words.goes; grown = more.words; own = both.words.own };
   }
 
-  pub adds_self : (old : Texts) (n : LockNamer R A B C) → AddsTexts old n n
-  adds_self old n = record {
-    types = adds_none (Contains old.types) (types_pass n) (types_pass n) (goes_self (types_pass n) n.types.ready) refl;
-    words = adds_none (Contains old.words) (words_pass n) (words_pass n) (goes_self (words_pass n) n.words.ready) refl;
+  pub adds_self : (P : Which → List ℕ → Type 0) (n : LockNamer R A B C) → AddsTexts P n n
+  adds_self P n = record {
+    types = adds_none (P Types) (types_pass n) (types_pass n) (goes_self (types_pass n) n.types.ready) refl;
+    words = adds_none (P Words) (words_pass n) (words_pass n) (goes_self (words_pass n) n.words.ready) refl;
   }
 
-  pub adds_seen : (old : Texts) (m n : LockNamer R A B C) → HasOnlySeen m n → AddsTexts old m n
-  adds_seen old m n only = record {
-    types = adds_none (Contains old.types) (types_pass m) (types_pass n) only.types only.own_types;
-    words = adds_none (Contains old.words) (words_pass m) (words_pass n) only.words only.own_words;
+  pub adds_seen : (P : Which → List ℕ → Type 0) (m n : LockNamer R A B C) → HasOnlySeen m n → AddsTexts P m n
+  adds_seen P m n only = record {
+    types = adds_none (P Types) (types_pass m) (types_pass n) only.types only.own_types;
+    words = adds_none (P Words) (words_pass m) (words_pass n) only.words only.own_words;
   }
 
-  pub texts_then : (old : Texts) (a b c : LockNamer R A B C) → AddsTexts old a b → AddsTexts old b c → AddsTexts old a c
-  texts_then old a b c one two = record {
-    types = adds_then (Contains old.types) (types_pass a) (types_pass b) (types_pass c) one.types two.types;
-    words = adds_then (Contains old.words) (words_pass a) (words_pass b) (words_pass c) one.words two.words;
+  pub texts_then : (P : Which → List ℕ → Type 0) (a b c : LockNamer R A B C) → AddsTexts P a b → AddsTexts P b c → AddsTexts P a c
+  texts_then P a b c one two = record {
+    types = adds_then (P Types) (types_pass a) (types_pass b) (types_pass c) one.types two.types;
+    words = adds_then (P Words) (words_pass a) (words_pass b) (words_pass c) one.words two.words;
+  }
+
+  -- what was named for a segment was named for one at these places
+  pub adds_at : (old : Texts) (told told_now : Option (List ℕ)) (places : List SegmentPlace) (place : SegmentPlace) (m n : LockNamer R A B C) → told_now ≡ told → Contains places place
+      → AddsTexts (IsTextThere old told_now place) m n → AddsTexts (IsNeeded old told places) m n
+  adds_at old told told_now places place m n same in_places adds = record {
+    types = adds_wider (IsTextThere old told_now place Types) (IsNeeded old told places Types) (λ t there. (place, in_places, subst (λ o. IsTextThere old o place Types t) same there)) (types_pass m) (types_pass n) adds.types;
+    words = adds_wider (IsTextThere old told_now place Words) (IsNeeded old told places Words) (λ t there. (place, in_places, subst (λ o. IsTextThere old o place Words t) same there)) (words_pass m) (words_pass n) adds.words;
   }
 
   pub serves_seen : (version : ℕ) (old : Texts) (m n : LockNamer R A B C) (taker : Taker) → HasOnlySeen m n → Serves version old (books_in m) taker → Serves version old (books_in n) taker

@@ -2,12 +2,16 @@
 use Rattle.std.proofs.Common.{◌≡◌, ℕ, suc, ◌+◌, ◌<◌, ◌≤◌, List, [], ◌∷◌, ◌++◌, All, append_assoc, arith, refl, sym, ap, ◌∙◌, subst, length, length-append}
 use Rattle.std.specs.Prelude.{Bool, Option, Some, slice_get}
 use Rattle.std.proofs.lemmas.List.{append-nil}
-use Rattle.std.proofs.lemmas.List.Elements.{All-append, All-cons, All-head, All-nil, All-tail}
+use Rattle.std.proofs.lemmas.List.Elements.{All-append, All-cons, All-head, All-nil, All-tail, Contains-append_left, Contains-append_right}
+use Rattle.std.specs.List.{Contains}
 use Rattle.std.proofs.lemmas.List.Sums.{sum_by-append}
 use Rattle.column_store.specs.declared.row.Row.{Row}
 use Rattle.row_codec.specs.Means.{AreCanonical}
 use Rattle.row_codec.specs.Messages.{IsMessage}
 use Rattle.row_codec.proofs.MeansLemmas.{prefix_keeps}
+use Rattle.row_codec.specs.declared.namer.Which.{Which}
+use Rattle.row_codec.specs.declared.namer.Which.TheVariants.{Types, Words}
+use Rattle.row_rename.proofs.TableLemmas.{grown_weaker}
 use Rattle.segment_pages.specs.declared.refusal.PageRefusal.{PageRefusal}
 use Rattle.segment_format.specs.Pages.{page_rows}
 use Rattle.segment_pages.specs.Laws.{NoneAreLeft}
@@ -22,6 +26,7 @@ use Rattle.archive_merge.specs.declared.stop.Stop.TheVariants.{SecondDamaged, Se
 use Rattle.archive_merge.specs.declared.taker.Taker.{Taker}
 use Rattle.archive_merge.specs.Stops.{stop_by_page}
 use Rattle.archive_merge.specs.InHand.{HasInHand, MayTakeAll, TakesAll, TakesRows, Texts}
+use Rattle.archive_merge.specs.Needed.{IsTextOfRows, IsTextThere}
 use Rattle.archive_merge.specs.Taken.{Books, HasNamed, MayTakeSegment, Serves, TakesSegment}
 use Rattle.archive_merge.proofs.HandLemmas.{both_none, both_then, takes_none}
 
@@ -172,6 +177,26 @@ module _ (version : ℕ) (old before : Texts) (place : SegmentPlace) (seen : Opt
       not_taken two.first (two.canonical, each)
       (may_part old before middle way.rows page at.0 hand mid way.takes.takes (subst (λ (l : List Row). MayTakeAll old.types old.words l hand) at.1 may.may))
 
+  -- what the rows of a page need, rows of the segment need
+  pub way_named : (p next : Paged) (middle : Texts) (page : List Row) (mid : Hand) (b : Bool) (books books_new : Books) (taker : Taker) → AreNextTold seen p next page → IsUnderWay p middle mid b
+      → HasNamed (IsTextOfRows old page) version old books books_new taker → HasNamed (IsTextThere old seen place) version old books books_new taker
+  way_named p next middle page mid b books books_new taker page_is way named = record {
+    more = record {
+      types = grown_weaker (IsTextOfRows old page Types) (IsTextThere old seen place Types) (there Types) books.types books_new.types named.more.types;
+      words = grown_weaker (IsTextOfRows old page Words) (IsTextThere old seen place Words) (there Words) books.words books_new.words named.more.words;
+    };
+    serves = named.serves;
+  }
+    where
+      there : (book : Which) (text : List ℕ) → IsTextOfRows old page book text → IsTextThere old seen place book text
+      there book text (row, in_page, needs) = record {
+        row = row;
+        there = λ bytes all told has.
+            let at = next_left p next way.rows page bytes all told page_is (way.left bytes all told has) in
+            subst (λ l. Contains l row) (sym at.1) (Contains-append_right way.rows (page ++ at.0) row (Contains-append_left page at.0 row in_page));
+        needs = needs;
+      }
+
   -- behind the last page they are all
   pub way_done : (p : Paged) (now : Texts) (new : Hand) (c : Bool) → NoneAreLeft → p.pages.rows ≤ p.pages.row → IsUnderWay p now new c → TakesSegment version old before now place seen hand new open_before c
   way_done p now new c law last way = record {
@@ -188,14 +213,14 @@ way_many version old place bytes hand many may = omega (arith, many, may.few, ma
 
 -- ---- what is named
 
-pub named_none : (version : ℕ) (old : Texts) (books : Books) (taker : Taker) → Serves version old books taker → HasNamed version old books books taker
-named_none version old books taker serves =
-    let both = both_none old.types old.words books.types books.words taker.tables serves.tables_are in
+pub named_none : (P : Which → List ℕ → Type 0) (version : ℕ) (old : Texts) (books : Books) (taker : Taker) → Serves version old books taker → HasNamed P version old books books taker
+named_none P version old books taker serves =
+    let both = both_none P old.types old.words books.types books.words taker.tables serves.tables_are in
     record { more = record { types = both.types_grown; words = both.words_grown }; serves = serves }
 
-pub named_then : (version : ℕ) (old : Texts) (before middle after : Books) (mid new : Taker) → HasNamed version old before middle mid → HasNamed version old middle after new → HasNamed version old before after new
-named_then version old before middle after mid new one two =
-    let both = both_then old.types old.words before.types middle.types after.types before.words middle.words after.words mid.tables new.tables
+pub named_then : (P : Which → List ℕ → Type 0) (version : ℕ) (old : Texts) (before middle after : Books) (mid new : Taker) → HasNamed P version old before middle mid → HasNamed P version old middle after new → HasNamed P version old before after new
+named_then P version old before middle after mid new one two =
+    let both = both_then P old.types old.words before.types middle.types after.types before.words middle.words after.words mid.tables new.tables
     (record { types_grown = one.more.types; words_grown = one.more.words; kept = one.serves.tables_are })
     (record { types_grown = two.more.types; words_grown = two.more.words; kept = two.serves.tables_are }) in
     record { more = record { types = both.types_grown; words = both.words_grown }; serves = two.serves }

@@ -42,6 +42,7 @@ use Rattle.archive_merge.specs.declared.taker.Taker.{Taker}
 use Rattle.archive_merge.specs.Files.{AreCutAs, IsNotDone}
 use Rattle.archive_merge.specs.InHand.{Texts}
 use Rattle.archive_merge.specs.Merger.{StaysRead, file_at}
+use Rattle.archive_merge.specs.Needed.{IsNeeded}
 use Rattle.archive_merge.specs.Runs.{HoldRun, SoFar, nothing_so_far}
 use Rattle.archive_merge.specs.Taken.{Books, Serves, texts_by}
 
@@ -95,9 +96,13 @@ abbrev pub old_texts : SecondView → Which → List (List ℕ)
 old_texts s WhichTypes = s.texts.types
 old_texts s WhichWords = s.texts.words
 
--- the texts of a book are those of the entries, and others of the second archive
+-- the texts that rows of its segments need
+abbrev pub needed_of : SecondView → Which → List ℕ → Type 0
+needed_of s = IsNeeded s.texts s.told s.segments
+
+-- the texts of a book are those of the entries, and others that rows of the second archive need
 abbrev pub AreOfBoth : SecondView → List JournalEntry → Which → List (List ℕ) → Type 0
-AreOfBoth s front book texts = HasTextsBehind (Contains (old_texts s book)) (book_texts book front) texts
+AreOfBoth s front book texts = HasTextsBehind (needed_of s book) (book_texts book front) texts
 
 -- ---- before
 
@@ -207,12 +212,12 @@ module _ {D : Type 0} {d : DiskGhosts D} where
     pub not_done : (all : SoFar) → HasRun s (file.file - first) all → IsNotDone (places_for s (file.file - first)) file
     pub cause : HasStopCause full has s first file.file file.messages before after why.cause
 
-  -- Where the journal is told, a book may have so many texts by the header, and there are as many of the journal and the second
-  -- archive; and one more of the second archive.
+  -- Where the journal is told, a book may have so many texts by the header, and there are as many of the journal and of those that
+  -- rows of the second archive need; and one more of the second archive.
   abbrev pub IsFullByBoth : SecondView → Journal D d → Which → ℕ → Type 0
   IsFullByBoth s before book count =
       IfTold (is_some (state_of before).disk.seen) ((count ≡ limit_of (header_limits before.header) book)
-      × IsFullBy (λ t. Contains (book_texts book (told_entries (state_of before))) t ⊎ Contains (old_texts s book) t)
+      × IsFullBy (λ t. Contains (book_texts book (told_entries (state_of before))) t ⊎ needed_of s book t)
       (Contains (old_texts s book)) count)
 
   -- Each file was moved. Where they are told, the journal's entries are those of before and new ones, which are texts and
@@ -227,12 +232,13 @@ module _ {D : Type 0} {d : DiskGhosts D} where
         → (new : Merged) × (slice_get files' i ≡ Some new) × IsMovedFile s first stop before fresh file new
     pub others : All (IsOfFiles files) fresh
 
-  -- The same, and each text that the new entries add is one of the second archive. What stopped a file has its cause.
+  -- The same, and each text that the new entries add is one that a row of the second archive needs. What stopped a file has its
+  -- cause.
   pub record HasMerged (s : SecondView) (first : ℕ) (stop : Option Stopped) (files files' : List Merged)
       (before after : Journal D d) : Type 0 where
     pub store : StoreView D
     pub stored : HasStored s first stop files files' before after store
-    pub types : All (Contains s.texts.types) (types_of stored.fresh)
-    pub words : All (Contains s.texts.words) (words_of stored.fresh)
+    pub types : All (needed_of s WhichTypes) (types_of stored.fresh)
+    pub words : All (needed_of s WhichWords) (words_of stored.fresh)
     pub why : (why : Stopped) → stop ≡ Some why → HasStopped (IsFullByBoth s before) (AreOfBoth s) s first files'
         before after why

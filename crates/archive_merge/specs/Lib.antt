@@ -10,6 +10,7 @@ pub mod Merger
 pub mod MergerLaws
 pub mod Merging
 pub mod Named
+pub mod Needed
 pub mod Next
 pub mod PassLaws
 pub mod Runs

@@ -1,13 +1,15 @@
 -- What moves one file after the other: its passes of the two books, the second archive, and what stops it.
 use Rattle.std.specs.Prelude.{◌≡◌, ◌≢◌, ℕ, ◌-◌, ◌≤◌, List, Option, None, Some, IsSome, slice_get}
 use Rattle.std.specs.Prelude.{◌<◌, All, is_none}
-use Rattle.std.specs.List.{Contains, filter}
+use Rattle.std.specs.List.{filter}
 use Rattle.std.specs.List.Sorted.{IsNonDecreasingBy}
 use Rattle.log_seams.specs.Disk.{DiskState, Rests}
 use Rattle.log_seams.specs.Outside.{Rose}
 use Rattle.logtype_text.specs.Fair.{IsFairType, IsFairWord}
 use Rattle.turn_lock.specs.declared.board.About.{About}
 use Rattle.log_seams.specs.declared.disk.Disk.{Ghosts as DiskGhosts}
+use Rattle.row_codec.specs.declared.namer.Which.{Which}
+use Rattle.row_codec.specs.declared.namer.Which.TheVariants.{Types, Words}
 use Rattle.row_codec.specs.declared.names.Names.{Ghosts as NamesGhosts}
 use Rattle.turn_lock.specs.Words.{IsReady, about, lock_of, number_of}
 use Rattle.dict_core.specs.declared.grows.TheConstants.{WORDS_FIRST}
@@ -29,6 +31,7 @@ use Rattle.archive_merge.specs.declared.taker.Taker.{Taker}
 use Rattle.archive_merge.specs.Causes.{HasMoveCause}
 use Rattle.archive_merge.specs.Files.{CameOver, IsNewFile}
 use Rattle.archive_merge.specs.InHand.{Texts}
+use Rattle.archive_merge.specs.Needed.{IsNeeded}
 use Rattle.archive_merge.specs.Runs.{HoldRun, SoFar, nothing_so_far}
 use Rattle.archive_merge.specs.Taken.{Books, Serves, texts_by}
 
@@ -45,10 +48,10 @@ pub record MayName (b : BookPasses) : Type 0 where
   pub adds_types : number_of (pass_in b.types) < WORDS_FIRST
   pub adds_words : WORDS_FIRST < number_of (pass_in b.words)
 
--- what both added meanwhile are texts of the second archive
-pub record PassesAdd (old : Texts) (b c : BookPasses) : Type 0 where
-  pub types : AddsOnly (Contains old.types) (pass_in b.types) (pass_in c.types)
-  pub words : AddsOnly (Contains old.words) (pass_in b.words) (pass_in c.words)
+-- what both added meanwhile are such texts
+pub record PassesAdd (P : Which → List ℕ → Type 0) (b c : BookPasses) : Type 0 where
+  pub types : AddsOnly (P Types) (pass_in b.types) (pass_in c.types)
+  pub words : AddsOnly (P Words) (pass_in b.words) (pass_in c.words)
 
 module _ {D : Type 0} where
   -- they are of the locks of the store that the pass is of, whose archive has this version, and the taker goes with them
@@ -105,12 +108,17 @@ module _ {M E : Type 0} {G : NamesGhosts M} {H : DiskGhosts E} (types words : M 
     pub may : MayName (passes_of w)
     pub serves : Serves (version_of w) (old_of w) (books_of (passes_of w)) w.second.taker
 
-  -- It did nothing but move files, and only read the second archive. Once it was stopped it stays so.
+  -- the texts that rows of the second archive need
+  abbrev pub needed_in : (E → DiskState) → Merger M E G H → Which → List ℕ → Type 0
+  needed_in state w = IsNeeded (old_of w) (state w.second.disk.now).seen w.second.segments.now
+
+  -- It did nothing but move files, named only texts that rows need, and only read the second archive. Once it was stopped it
+  -- stays so.
   pub record MovesOn (state : E → DiskState) (js js' : List Merged) (w v : Merger M E G H) : Type 0 where
     pub first_is : v.first ≡ w.first
     pub second_is : StaysRead state w.second v.second
     pub later : (state w.second.disk.now).faults ≤ (state v.second.disk.now).faults
-    pub adds : PassesAdd (old_of w) (passes_of w) (passes_of v)
+    pub adds : PassesAdd (needed_in state w) (passes_of w) (passes_of v)
     pub stop_is : w.stop ≢ None → v.stop ≡ w.stop
     pub stopped_by : w.stop ≡ None → (s : Stopped) → v.stop ≡ Some s → IsOneOf js s
 

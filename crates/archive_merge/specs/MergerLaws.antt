@@ -1,10 +1,11 @@
 -- Laws of what moves one file after the other, which its trait asks for.
 use Rattle.std.proofs.Common.{◌≡◌, ◌≢◌, ℕ, ◌≤◌, List, sym, refl, ap, ◌∙◌, subst, Option, None, Some, arith, IsSome, ◌+◌, ◌++◌, length, slice_get}
-use Rattle.std.specs.List.{Contains}
 use Rattle.std.proofs.lemmas.Option.{slice_get_within}
 use Rattle.log_seams.specs.Disk.{DiskState}
 use Rattle.log_seams.proofs.MomentLemmas.{rests_on}
 use Rattle.log_seams.specs.declared.disk.Disk.{Ghosts as DiskGhosts}
+use Rattle.row_codec.specs.declared.namer.Which.{Which}
+use Rattle.row_codec.specs.declared.namer.Which.TheVariants.{Types, Words}
 use Rattle.row_codec.specs.declared.names.Names.{Ghosts as NamesGhosts}
 use Rattle.archive_decode.proofs.SegmentLemmas.{rests_none}
 use Rattle.ingest_fork.specs.Works.{ArePieces}
@@ -15,21 +16,28 @@ use Rattle.archive_merge.specs.declared.file.Merged.{Merged}
 use Rattle.archive_merge.specs.declared.merger.BookPasses.{BookPasses}
 use Rattle.archive_merge.specs.declared.merger.Merger.{Merger}
 use Rattle.archive_merge.specs.declared.merger.Stopped.{Stopped}
-use Rattle.archive_merge.specs.InHand.{Texts}
-use Rattle.archive_merge.specs.PassLaws.{adds_none, adds_then, goes_self}
+use Rattle.archive_merge.specs.Needed.{IsNeeded}
+use Rattle.archive_merge.specs.PassLaws.{adds_none, adds_then, adds_wider, goes_self}
 use Rattle.archive_merge.specs.Taken.{Serves, texts_by}
-use Rattle.archive_merge.specs.Merger.{IsIdle, IsOneOf, MayMoveFile, MayName, MovesOn, PassesAdd, books_of, passes_in, passes_of}
+use Rattle.archive_merge.specs.Merger.{IsIdle, IsOneOf, MayMoveFile, MayName, MovesOn, PassesAdd, books_of, needed_in, passes_in, passes_of}
 
-pub passes_self : (old : Texts) (b : BookPasses) → MayName b → PassesAdd old b b
-passes_self old b may = record {
-  types = adds_none (Contains old.types) (pass_in b.types) (pass_in b.types) (goes_self (pass_in b.types) may.types_ready) refl;
-  words = adds_none (Contains old.words) (pass_in b.words) (pass_in b.words) (goes_self (pass_in b.words) may.words_ready) refl;
+pub passes_self : (P : Which → List ℕ → Type 0) (b : BookPasses) → MayName b → PassesAdd P b b
+passes_self P b may = record {
+  types = adds_none (P Types) (pass_in b.types) (pass_in b.types) (goes_self (pass_in b.types) may.types_ready) refl;
+  words = adds_none (P Words) (pass_in b.words) (pass_in b.words) (goes_self (pass_in b.words) may.words_ready) refl;
 }
 
-pub passes_then : (old : Texts) (a b c : BookPasses) → PassesAdd old a b → PassesAdd old b c → PassesAdd old a c
-passes_then old a b c one two = record {
-  types = adds_then (Contains old.types) (pass_in a.types) (pass_in b.types) (pass_in c.types) one.types two.types;
-  words = adds_then (Contains old.words) (pass_in a.words) (pass_in b.words) (pass_in c.words) one.words two.words;
+pub passes_then : (P : Which → List ℕ → Type 0) (a b c : BookPasses) → PassesAdd P a b → PassesAdd P b c → PassesAdd P a c
+passes_then P a b c one two = record {
+  types = adds_then (P Types) (pass_in a.types) (pass_in b.types) (pass_in c.types) one.types two.types;
+  words = adds_then (P Words) (pass_in a.words) (pass_in b.words) (pass_in c.words) one.words two.words;
+}
+
+pub passes_wider : (P Q : Which → List ℕ → Type 0) → ((book : Which) (t : List ℕ) → P book t → Q book t)
+    → (b c : BookPasses) → PassesAdd P b c → PassesAdd Q b c
+passes_wider P Q wider b c adds = record {
+  types = adds_wider (P Types) (Q Types) (wider Types) (pass_in b.types) (pass_in c.types) adds.types;
+  words = adds_wider (P Words) (Q Words) (wider Words) (pass_in b.words) (pass_in c.words) adds.words;
 }
 
 abbrev or_these : BookPasses → Option BookPasses → BookPasses
@@ -48,7 +56,7 @@ module _ {M E : Type 0} {G : NamesGhosts M} {H : DiskGhosts E} (types words : M 
     first_is = refl;
     second_is = record { lent = refl; names = refl; segments = refl; rests = rests_none (state w.second.disk.now) };
     later = omega arith;
-    adds = passes_self (texts_by types words w.second.names.now) (passes_of w) idle.may;
+    adds = passes_self (needed_in types words version state w) (passes_of w) idle.may;
     stop_is = λ some. refl;
     stopped_by = λ none s some. absurd (cc (none, some));
   }
@@ -65,8 +73,13 @@ module _ {M E : Type 0} {G : NamesGhosts M} {H : DiskGhosts E} (types words : M 
           one.second_is.rests two.second_is.rests;
     };
     later = omega (arith, one.later, two.later);
-    adds = passes_then (texts_by types words a.second.names.now) (passes_of a) (passes_of b) (passes_of c) one.adds
-        (subst (λ n. PassesAdd (texts_by types words n.now) (passes_of b) (passes_of c)) one.second_is.names two.adds);
+    adds = passes_then (needed_in types words version state a) (passes_of a) (passes_of b) (passes_of c) one.adds
+        (subst (λ n. PassesAdd (IsNeeded (texts_by types words n.now) (state a.second.disk.now).seen a.second.segments.now)
+        (passes_of b) (passes_of c)) one.second_is.names
+        (subst (λ t. PassesAdd (IsNeeded (texts_by types words b.second.names.now) t a.second.segments.now)
+        (passes_of b) (passes_of c)) one.second_is.rests.seen
+        (subst (λ s. PassesAdd (IsNeeded (texts_by types words b.second.names.now) (state b.second.disk.now).seen s.now)
+        (passes_of b) (passes_of c)) one.second_is.segments two.adds)));
     stop_is = λ some. two.stop_is (subst (λ s. s ≢ None) (sym (one.stop_is some)) some) ∙ one.stop_is some;
     stopped_by = λ none s some. by_stop none s some b.stop refl;
   }

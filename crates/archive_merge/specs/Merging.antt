@@ -1,11 +1,12 @@
 -- The files of a second archive behind those of a first: their names, and then what was moved of them.
 use Rattle.std.specs.Prelude.{◌≡◌, ◌≢◌, ◌+◌, ◌-◌, ◌<◌, ◌≤◌, ◌&&◌, ℕ, Bool, false, List, [], ◌++◌, length, take, is_some, Option, None, Some, slice_get, All}
 use Rattle.std.specs.Borrow.{MutBor}
-use Rattle.std.specs.List.{Contains, filter_map, list_any, sum_by}
+use Rattle.std.specs.List.{filter_map, list_any, sum_by}
 use mathlib.Core.List.{IsPrefix}
 use Rattle.log_seams.specs.Disk.{DiskState, Rests}
 use Rattle.log_seams.specs.declared.disk.Disk.{Ghosts as DiskGhosts}
 use Rattle.log_seams.specs.Outside.{Rose}
+use Rattle.row_codec.specs.declared.namer.Which.TheVariants.{Types, Words}
 use Rattle.disk_journal.specs.declared.journal.Journal.{Journal}
 use Rattle.disk_journal.specs.Journal.{state_of}
 use Rattle.disk_journal.specs.State.{JournalState}
@@ -26,7 +27,7 @@ use Rattle.archive_merge.specs.declared.file.Merged.{Merged}
 use Rattle.archive_merge.specs.declared.merging.ToMerge.{ToMerge}
 use Rattle.archive_merge.specs.declared.refusal.MergeRefusal.{MergeRefusal}
 use Rattle.archive_merge.specs.declared.refusal.MergeRefusal.TheVariants.{LongName, Names, OutOfMemory, Stopped}
-use Rattle.archive_merge.specs.Behind.{AreOfBoth, HasRun, HasStopped, IsFullByBoth, IsOfFiles, SecondView, places_for}
+use Rattle.archive_merge.specs.Behind.{AreOfBoth, HasRun, HasStopped, IsFullByBoth, IsOfFiles, SecondView, needed_of, places_for}
 use Rattle.archive_merge.specs.Files.{AreCutAs}
 use Rattle.name_records.specs.Left.{HasGoneOn, LeavesEntries}
 use Rattle.name_records.specs.Named.{AreNamesOf, HasNamesCause, IsShort}
@@ -88,7 +89,7 @@ module _ {D : Type 0} {d : DiskGhosts D} where
     pub few : first + count ≤ MAX_FILES
 
   -- The files are the first ones of those with these names, and all where nothing was refused. To the journal their names were
-  -- added, and then texts of the second archive and segments of the files.
+  -- added, and then segments of the files, and texts that rows of the second archive need and no others.
   pub record HasMergedAll (s : SecondView) (first : ℕ) (names : List (List ℕ)) (files : List Merged)
       (refusal : Option MergeRefusal) (before after : Journal D d) : Type 0 where
     pub goes : HasGoneOn (state_of before) (state_of after)
@@ -100,8 +101,8 @@ module _ {D : Type 0} {d : DiskGhosts D} where
     pub named : AreNamesOf naming (take (length files) names)
     pub fresh : List JournalEntry
     pub others : All (IsOfFiles files) fresh
-    pub types : All (Contains s.texts.types) (types_of fresh)
-    pub words : All (Contains s.texts.words) (words_of fresh)
+    pub types : All (needed_of s Types) (types_of fresh)
+    pub words : All (needed_of s Words) (words_of fresh)
     pub each : (i : ℕ) (file : Merged) → slice_get files i ≡ Some file
         → IsMergedFile s i (done_by first (length files) refusal) (state_of before) (naming ++ fresh) file
     -- the disk, at each moment since the start and at the end

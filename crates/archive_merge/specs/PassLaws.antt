@@ -9,6 +9,7 @@ use Rattle.dict_lock.specs.Shared.{BookPass, GoesOn, OwnsBehind}
 use Rattle.row_codec.specs.Naming.{HasGrown}
 use Rattle.row_codec.proofs.GrowthLemmas.{grows_then}
 use Rattle.disk_seal.specs.Known.{known_of, limit_in}
+use Rattle.row_rename.proofs.TableLemmas.{grown_weaker}
 use Rattle.ingest_workers.specs.Naming.{AddsOnly}
 
 pub goes_self : (p : BookPass) → IsReady p → GoesOn p p
@@ -64,4 +65,12 @@ adds_then P p q r one two = record {
   goes = goes_then p q r one.goes two.goes;
   grown = grows_then P (known_of p) (known_of q) (known_of r) one.grown two.grown;
   own = owns_then p q r (prefix_length (seen p) (seen q) one.goes.seen_on) one.own two.own;
+}
+
+-- what was added are also texts of a wider kind
+pub adds_wider : (P Q : List ℕ → Type 0) → ((t : List ℕ) → P t → Q t) → (p q : BookPass) → AddsOnly P p q → AddsOnly Q p q
+adds_wider P Q wider p q adds = record {
+  goes = adds.goes;
+  grown = grown_weaker P Q wider (known_of p) (known_of q) adds.grown;
+  own = adds.own;
 }

@@ -1,10 +1,11 @@
 -- What is in hand becomes a segment of the first archive.
 use Rattle.std.specs.Prelude.{◌≡◌, ◌≤◌, ◌+◌, ◌<◌, ℕ, ◌&&◌, true, false, List, ◌++◌, length, All, Option, Some}
-use Rattle.std.specs.List.{Contains}
 use Rattle.log_seams.specs.Disk.{DiskState}
 use Rattle.turn_lock.specs.Words.{number_of, seen}
 use Rattle.column_store.specs.declared.row.Row.{Row}
 use Rattle.row_codec.specs.Messages.{IsMessage}
+use Rattle.row_codec.specs.declared.namer.Which.{Which}
+use Rattle.row_codec.specs.declared.namer.Which.TheVariants.{Types, Words}
 use Rattle.segment_format.specs.Layout.{sorted_set}
 use Rattle.row_rename.specs.Renamed.{used_in}
 use Rattle.segment_pages.specs.Paged.{HoldsSegment}
@@ -37,10 +38,10 @@ module _ {R A B C : Type 0} where
   texts_seen n = record { types = types_seen n; words = words_seen n }
 
 module _ {R A B C : Type 0} where
-  -- both passes of the namer have seen more, and what they added meanwhile are texts of the second archive
-  pub record AddsTexts (old : Texts) (m n : LockNamer R A B C) : Type 0 where
-    pub types : AddsOnly (Contains old.types) (types_pass m) (types_pass n)
-    pub words : AddsOnly (Contains old.words) (words_pass m) (words_pass n)
+  -- both passes of the namer have seen more, and what they added meanwhile are such texts
+  pub record AddsTexts (P : Which → List ℕ → Type 0) (m n : LockNamer R A B C) : Type 0 where
+    pub types : AddsOnly (P Types) (types_pass m) (types_pass n)
+    pub words : AddsOnly (P Words) (words_pass m) (words_pass n)
 
 -- it was sealed, and nothing is in hand behind it
 pub record IsEmptied (old new : Hand) : Type 0 where

@@ -1,8 +1,9 @@
 -- What takes rows over, what is named for them, and a segment that was taken over.
 use Rattle.std.specs.Prelude.{◌≡◌, ◌≤◌, ℕ, Bool, List, length, Option, Some}
-use Rattle.std.specs.List.{Contains}
 use Rattle.column_store.specs.declared.row.Row.{Row}
 use Rattle.row_codec.specs.Naming.{HasGrown, Known}
+use Rattle.row_codec.specs.declared.namer.Which.{Which}
+use Rattle.row_codec.specs.declared.namer.Which.TheVariants.{Types, Words}
 use Rattle.row_rename.specs.Tables.{AreTables}
 use Rattle.archive_meaning.specs.declared.TheConstants.{MAX_ROWS}
 use Rattle.archive_core.specs.Rows.{AreMessages}
@@ -33,14 +34,15 @@ pub record Serves (version : ℕ) (old : Texts) (books : Books) (taker : Taker) 
   pub judge_is : taker.judge ≡ old.types
   pub tables_are : AreTables old.types old.words books.types.texts books.words.texts taker.tables
 
--- More is known: what was known keeps its numbers, and all that was added are texts of the second archive.
-pub record KnowsMore (old : Texts) (before after : Books) : Type 0 where
-  pub types : HasGrown (Contains old.types) before.types after.types
-  pub words : HasGrown (Contains old.words) before.words after.words
+-- More is known: what was known keeps its numbers, and all that was added are such texts.
+pub record KnowsMore (P : Which → List ℕ → Type 0) (before after : Books) : Type 0 where
+  pub types : HasGrown (P Types) before.types after.types
+  pub words : HasGrown (P Words) before.words after.words
 
 -- more is known, and it keeps numbers of that
-pub record HasNamed (version : ℕ) (old : Texts) (before after : Books) (taker : Taker) : Type 0 where
-  pub more : KnowsMore old before after
+pub record HasNamed (P : Which → List ℕ → Type 0) (version : ℕ) (old : Texts) (before after : Books) (taker : Taker)
+    : Type 0 where
+  pub more : KnowsMore P before after
   pub serves : Serves version old after taker
 
 -- Rows came behind those in hand. Where the bytes are told, they are all rows of the segment that stands at the place.

@@ -5,6 +5,7 @@ ghost use Rattle.log_seams.specs.Outside.{CountsOf};
 ghost use Rattle.logtype_text.specs.Fair.{IsFairType, IsFairWord};
 ghost use Rattle.archive_merge.specs.Causes.{HasMoveCause};
 ghost use Rattle.archive_merge.specs.Files.{CameOver, IsNewFile};
+ghost use Rattle.archive_merge.specs.Needed.{IsNeeded};
 ghost use Rattle.archive_merge.specs.Runs.{HoldRun, SoFar, nothing_so_far};
 ghost use Rattle.archive_merge.specs.Sealing.{AddsTexts, IsMover, books_in};
 ghost use Rattle.archive_merge.specs.Taken.{texts_by};
@@ -57,7 +58,9 @@ pub fn move_file<'d, 'b, M: Names, E: Disk, D: Disk, R: Wait, A: Ledger, B: Ledg
     ensures rests { Rests (E.state disk.old) (E.state disk.new) }
     ensures mover { IsMover (M.version names.now) (texts_by M.types M.words names.now)
         keeper.new namer.new taker.new }
-    ensures named { AddsTexts (texts_by M.types M.words names.now) namer.old namer.new }
+    ensures named { AddsTexts
+        (IsNeeded (texts_by M.types M.words names.now) (E.state disk.old).seen places.now)
+        namer.old namer.new }
 
     // what became of the file
     ensures came { CameOver D.state (M.version names.now) (texts_by M.types M.words names.now)

@@ -1,15 +1,17 @@
 //! Moving one file after the other.
 ghost use Rattle.std.specs.Prelude.{◌≡◌, ℕ, List, All, IfErr, IsErrOf, Some, is_ok};
-ghost use Rattle.std.specs.List.{filter};
+ghost use Rattle.std.specs.List.{Contains, filter};
 ghost use Rattle.std.specs.List.Sorted.{IsNonDecreasingBy};
 ghost use Rattle.log_seams.specs.Outside.{CountsOf};
 ghost use Rattle.logtype_text.specs.Fair.{IsFairType, IsFairWord};
 ghost use Rattle.step_count.specs.Opens.{OpensFor};
 ghost use Rattle.archive_decode.specs.StepsHeld.{is_of};
+ghost use Rattle.archive_open.specs.declared.segments.SegmentPlace.{SegmentPlace};
 ghost use Rattle.archive_merge.specs.Causes.{HasMoveCause};
 ghost use Rattle.archive_merge.specs.Files.{CameOver, IsNewFile};
 ghost use Rattle.archive_merge.specs.Merger.{DidFile, GoesWith, IsIdle, MayMoveFile, MovesOn, PassesAdd, StaysRead, books_of, file_at};
 ghost use Rattle.archive_merge.specs.MergerLaws.{goes_on, rests, wider, fits_on};
+ghost use Rattle.archive_merge.specs.Needed.{IsNeeded};
 ghost use Rattle.archive_merge.specs.Runs.{HoldRun, SoFar, nothing_so_far};
 ghost use Rattle.archive_merge.specs.Taken.{texts_by};
 ghost use Rattle.archive_merge.specs.declared.cause.MergeCause.TheVariants.{SecondDamaged, SecondFault};
@@ -72,8 +74,10 @@ impl<'s, 'b, M: Names, E: Disk> Merger<'s, 'b, M, E> {
 
 /// The segments of the file with this number, where all are sorted by file.
 fn segments_of(places: &[SegmentPlace], number: u32) -> &[SegmentPlace]
-    ensures { IsNonDecreasingBy file_at places.now
+    ensures these { IsNonDecreasingBy file_at places.now
         → result.now ≡ filter (is_of number) places.now }
+    ensures among { (place : SegmentPlace)
+        → Contains result.now place → Contains places.now place }
 {
     let from = places.partition_point(|place| place.head.file < number);
     let rest = &places[from..];
@@ -101,8 +105,8 @@ fn move_with<'b, 'd, M: Names, E: Disk, D: Disk, R: Wait, A: Ledger, B: Ledger, 
     ensures second { StaysRead E.state second.old second.new }
     ensures goes { GoesWith (M.version second.old.names.now)
         (texts_by M.types M.words second.old.names.now) keeper.new result.0 second.new.taker }
-    ensures named { PassesAdd (texts_by M.types M.words second.old.names.now)
-        passes.entry result.0 }
+    ensures named { PassesAdd (IsNeeded (texts_by M.types M.words second.old.names.now)
+        (E.state second.old.disk.now).seen places.now) passes.entry result.0 }
 
     // what became of the file
     ensures came { CameOver D.state (M.version second.old.names.now)
@@ -168,8 +172,8 @@ fn move_by<'b, 'd, M: Names, E: Disk, D: Disk, R: Wait>(
     ensures second { StaysRead E.state second.old second.new }
     ensures goes { GoesWith (M.version second.old.names.now)
         (texts_by M.types M.words second.old.names.now) keeper.new result.0 second.new.taker }
-    ensures named { PassesAdd (texts_by M.types M.words second.old.names.now)
-        passes.entry result.0 }
+    ensures named { PassesAdd (IsNeeded (texts_by M.types M.words second.old.names.now)
+        (E.state second.old.disk.now).seen places.now) passes.entry result.0 }
 
     // what became of the file
     ensures came { CameOver D.state (M.version second.old.names.now)

@@ -4,6 +4,7 @@ ghost use Rattle.log_seams.specs.Disk.{Rests};
 ghost use Rattle.log_seams.specs.Outside.{CountsOf};
 ghost use Rattle.ingest_workers.specs.Sealed.{HasNotSealed};
 ghost use Rattle.archive_merge.specs.Causes.{HasMoveCause};
+ghost use Rattle.archive_merge.specs.Needed.{IsTextThere};
 ghost use Rattle.archive_merge.specs.Next.{HoldsNext};
 ghost use Rattle.archive_merge.specs.Sealing.{AddsTexts, IsMover, MovesSegment, StandsBehind, books_in};
 ghost use Rattle.archive_merge.specs.Taken.{texts_by};
@@ -47,7 +48,9 @@ pub fn move_segment<'d, 'b, M: Names, E: Disk, D: Disk, R: Wait, A: Ledger, B: L
     ensures rests { Rests (E.state disk.old) (E.state disk.new) }
     ensures mover { IsMover (M.version names.now) (texts_by M.types M.words names.now)
         keeper.new namer.new taker.new }
-    ensures named { AddsTexts (texts_by M.types M.words names.now) namer.old namer.new }
+    ensures named { AddsTexts
+        (IsTextThere (texts_by M.types M.words names.now) (E.state disk.old).seen place.now)
+        namer.old namer.new }
 
     // by the answer
     ensures moved { OnOk result (MovesSegment D.state (M.version names.now)

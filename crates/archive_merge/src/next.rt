@@ -5,6 +5,7 @@ ghost use Rattle.log_seams.specs.Outside.{CountsOf};
 ghost use Rattle.row_rename.specs.Causes.{IsFull};
 ghost use Rattle.row_rename.specs.Paths.{HasNamedMore};
 ghost use Rattle.archive_merge.specs.Next.{HoldsNext, TakesNext, part_of};
+ghost use Rattle.archive_merge.specs.Needed.{IsTextThere};
 ghost use Rattle.archive_merge.specs.Taken.{HasNamed, Serves, books_by, texts_by, texts_in};
 ghost use Rattle.archive_merge.specs.declared.stop.Stop.TheVariants.{SecondDamaged, SecondFault};
 
@@ -52,7 +53,9 @@ pub(crate) fn take_next<M: Names, N: Namer, E: Disk>(
 
     // what stays, and what is named
     ensures rests { Rests (E.state disk.old) (E.state disk.new) }
-    ensures named { HasNamed (M.version names.now) (texts_by M.types M.words names.now)
+    ensures named { HasNamed
+        (IsTextThere (texts_by M.types M.words names.now) (E.state disk.old).seen place.now)
+        (M.version names.now) (texts_by M.types M.words names.now)
         (books_by N.types N.words namer.old) (books_by N.types N.words namer.new) taker.new }
     ensures namer { (N.version namer.new ≡ N.version namer.old)
         × HasNamedMore N.naming namer.old namer.new }

@@ -3,9 +3,11 @@ ghost use Rattle.std.specs.Prelude.{◌≡◌, ◌+◌, ◌<◌, ◌≤◌, ℕ,
 ghost use Rattle.column_store.specs.Row.{row_of};
 ghost use Rattle.row_rename.specs.Causes.{IsFull};
 ghost use Rattle.row_rename.specs.Paths.{HasNamedMore};
+ghost use Rattle.row_rename.specs.Renamed.{IsTextOfRow};
 ghost use Rattle.row_rename.specs.Tables.{AreTables, HasNamedBoth};
 ghost use Rattle.archive_core.specs.Rows.{AreMessages};
 ghost use Rattle.archive_merge.specs.InHand.{MayTake, MayTakeAll, SameMarks, TakesAll, TakesRow, TakesRows};
+ghost use Rattle.archive_merge.specs.Needed.{IsTextOfRows};
 ghost use Rattle.archive_merge.specs.Taken.{HasNamed, Serves, books_by, texts_by, texts_in};
 ghost use Rattle.archive_merge.specs.declared.stop.Stop.TheVariants.{SecondDamaged, SecondFault};
 
@@ -30,7 +32,9 @@ fn take_row<M: Names, N: Namer>(
 
     // what stays, and what is named
     ensures version { N.version namer.new ≡ N.version namer.old }
-    ensures named { HasNamedBoth (M.types names.now) (M.words names.now) (N.types namer.old)
+    ensures named { HasNamedBoth
+        (IsTextOfRow (M.types names.now) (M.words names.now) (row_of row.entry))
+        (M.types names.now) (M.words names.now) (N.types namer.old)
         (N.types namer.new) (N.words namer.old) (N.words namer.new) tables.new }
     ensures path { HasNamedMore N.naming namer.old namer.new }
     ensures marks { SameMarks hand.old hand.new }
@@ -72,7 +76,10 @@ fn take_rows<M: Names, N: Namer>(
 
     // what stays, and what is named
     ensures version { N.version namer.new ≡ N.version namer.old }
-    ensures named { HasNamedBoth (M.types names.now) (M.words names.now) (N.types namer.old)
+    ensures named { HasNamedBoth
+        (IsTextOfRows (record { types = M.types names.now; words = M.words names.now })
+        page.now.rows)
+        (M.types names.now) (M.words names.now) (N.types namer.old)
         (N.types namer.new) (N.words namer.old) (N.words namer.new) tables.new }
     ensures path { HasNamedMore N.naming namer.old namer.new }
     ensures marks { SameMarks hand.old hand.new }
@@ -118,7 +125,8 @@ pub fn take_page<M: Names, N: Namer>(
     requires room { length hand.old.draft.columns.rows + length page.now.rows ≤ 65536 }
 
     // what stays, and what is named
-    ensures named { HasNamed (M.version names.now) (texts_by M.types M.words names.now)
+    ensures named { HasNamed (IsTextOfRows (texts_by M.types M.words names.now) page.now.rows)
+        (M.version names.now) (texts_by M.types M.words names.now)
         (books_by N.types N.words namer.old) (books_by N.types N.words namer.new) taker.new }
     ensures namer { (N.version namer.new ≡ N.version namer.old)
         × HasNamedMore N.naming namer.old namer.new }

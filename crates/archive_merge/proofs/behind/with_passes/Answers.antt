@@ -44,7 +44,7 @@ returns-in-Ok-clause-moved g c =
     let done = c.in-Ok.ensures.done in
     let ended = c.end-journal.ensures.ended in
     let kept = c.end-journal.ensures.kept in
-    let adds = adds_between g.M.Names.types g.M.Names.words c.new-merger.result c.move_files.new.merger c.args.order.second b c.into_parts-second.result.1 c.new-merger.ensures.second c.new-merger.ensures.passes c.into_parts-second.ensures.passes done.moved.went.adds in
+    let adds = adds_between g.M.Names.types g.M.Names.words g.M.Names.version g.E.Disk.state c.new-merger.result c.move_files.new.merger c.args.order.second b c.into_parts-second.result.1 c.new-merger.ensures.second c.new-merger.ensures.passes c.into_parts-second.ensures.passes done.moved.went.adds in
     record {
       store = c.in-Ok.store;
       stored = subst (λ s. HasStored (second_by g.M.Names.types g.M.Names.words g.M.Names.version g.E.Disk.state c.args.order.second) c.args.order.first s c.args.files.now c.move_files.new.files c.args.journal c.end-journal.result c.in-Ok.store) (sym c.into_parts-second.ensures.stop)

@@ -5,11 +5,12 @@ use Rattle.column_store.specs.Row.{row_of}
 use Rattle.row_rename.proofs.PathLemmas.{path_then}
 use Rattle.archive_merge.specs.declared.stop.Stop.TheVariants.{Full, SecondDamaged}
 use Rattle.archive_merge.specs.InHand.{TakesAll, Texts}
-use Rattle.archive_merge.proofs.HandLemmas.{both_none, both_then, marks_then, may_take, takes_more, takes_none}
+use Rattle.archive_merge.proofs.HandLemmas.{both_none, both_then, marks_then, may_take, row_named, takes_more, takes_none}
 use Rattle.archive_merge.proofs.rows.take_rows.Goals as goal
 
 pub returns-in_err-take_row-clause-named : goal.returns-in_err-take_row-clause-named
-returns-in_err-take_row-clause-named g c = both_then _ _ _ _ _ _ _ _ _ _ c.loop-place.invariant.named c.take_row.ensures.named
+returns-in_err-take_row-clause-named g c = both_then _ _ _ _ _ _ _ _ _ _ _ c.loop-place.invariant.named
+    (row_named (record { types = g.M.Names.types c.args.names.now; words = g.M.Names.words c.args.names.now }) c.args.page.now.rows c.loop-place.place (row_of c.row.result) _ _ _ _ _ c.row.ensures c.take_row.ensures.named)
 
 pub returns-in_err-take_row-clause-path : goal.returns-in_err-take_row-clause-path
 returns-in_err-take_row-clause-path g c = path_then g.N.Namer.naming _ _ _ c.loop-place.invariant.path c.take_row.ensures.path
@@ -36,7 +37,7 @@ returns-in_err-take_row-clause-damaged g c = λ same may.
 pub loop-place-init : goal.loop-place-init
 loop-place-init g c = record {
   version = search rules;
-  named = both_none _ _ _ _ _ c.requires.tables;
+  named = both_none _ _ _ _ _ _ c.requires.tables;
   path = search rules;
   marks = search rules;
   takes = takes_none _ _ _;
@@ -52,7 +53,7 @@ loop-place-preserved g c =
     let after : Texts = record { types = (g.N.Namer.types c.take_row.new.namer).texts; words = (g.N.Namer.words c.take_row.new.namer).texts } in
     record {
       version = c.take_row.ensures.version ∙ now.invariant.version;
-      named = both_then _ _ _ _ _ _ _ _ _ _ now.invariant.named c.take_row.ensures.named;
+      named = both_then _ _ _ _ _ _ _ _ _ _ _ now.invariant.named (row_named old c.args.page.now.rows now.place (row_of c.row.result) _ _ _ _ _ c.row.ensures c.take_row.ensures.named);
       path = path_then g.N.Namer.naming _ _ _ now.invariant.path c.take_row.ensures.path;
       marks = marks_then _ _ _ now.invariant.marks c.take_row.ensures.marks;
       takes = subst (λ k. TakesAll old before after (take k c.args.page.now.rows) c.args.hand.now c.take_row.new.hand) step

@@ -9,7 +9,7 @@ use Rattle.archive_merge.specs.declared.stop.Stop.TheVariants.{SecondDamaged}
 use Rattle.archive_merge.specs.Stops.{stop_by_page}
 use Rattle.archive_merge.proofs.HandLemmas.{marks_then}
 use Rattle.archive_decode.proofs.SegmentLemmas.{rests_none}
-use Rattle.archive_merge.proofs.SegmentLemmas.{named_none, named_then, page_damaged, way_done, way_first, way_none, way_not, way_on}
+use Rattle.archive_merge.proofs.SegmentLemmas.{named_none, named_then, page_damaged, way_done, way_first, way_named, way_none, way_not, way_on}
 use Rattle.archive_merge.proofs.segment.take_segment.Goals as goal
 
 pub returns-in_default-clause-damaged : goal.returns-in_default-clause-damaged
@@ -19,7 +19,7 @@ pub loop-pages-init : goal.loop-pages-init
 loop-pages-init g c = record {
   rests = rests_none (g.E.Disk.state c.args.disk.now);
   version = refl;
-  named = named_none _ _ _ _ c.requires.serves;
+  named = named_none _ _ _ _ _ c.requires.serves;
   path = path_none g.N.Namer.naming _;
   marks = search rules;
   way = way_first _ _ _ _ _ _ _ c.in-Some.pages c.in-Some.ensures.first c.in-Some.ensures.holds;
@@ -39,7 +39,10 @@ returns-in_err-page-clause-damaged g c = λ same bytes told may.
     way_none _ _ _ _ _ _ _ c.loop-pages.pages _ c.loop-pages.hand c.loop-pages.open_end bytes told none c.loop-pages.invariant.way may
 
 pub returns-in_err-open_end-clause-named : goal.returns-in_err-open_end-clause-named
-returns-in_err-open_end-clause-named g c = named_then _ _ _ _ _ _ _ c.loop-pages.invariant.named c.take_page.ensures.named
+returns-in_err-open_end-clause-named g c =
+    let now = c.loop-pages in
+    let next = subst (λ s. AreNextTold s now.pages c.next_page.new.self c.in_ok-page.page.rows) now.invariant.rests.seen c.in_ok-page.ensures.page in
+    named_then _ _ _ _ _ _ _ _ now.invariant.named (way_named _ _ _ _ _ _ _ now.pages c.next_page.new.self _ c.in_ok-page.page.rows now.hand now.open_end _ _ _ next now.invariant.way c.take_page.ensures.named)
 
 pub returns-in_err-open_end-clause-namer : goal.returns-in_err-open_end-clause-namer
 returns-in_err-open_end-clause-namer g c =
@@ -57,8 +60,8 @@ returns-in_err-open_end-clause-damaged g c = λ same bytes told may.
 pub loop-pages-preserved : goal.loop-pages-preserved
 loop-pages-preserved g c =
     let now = c.loop-pages in
-    let named = named_then _ _ _ _ _ _ _ now.invariant.named c.take_page.ensures.named in
     let next = subst (λ s. AreNextTold s now.pages c.next_page.new.self c.in_ok-page.page.rows) now.invariant.rests.seen c.in_ok-page.ensures.page in
+    let named = named_then _ _ _ _ _ _ _ _ now.invariant.named (way_named _ _ _ _ _ _ _ now.pages c.next_page.new.self _ c.in_ok-page.page.rows now.hand now.open_end _ _ _ next now.invariant.way c.take_page.ensures.named) in
     record {
       rests = rests_on _ _ _ now.invariant.rests c.in_ok-page.ensures.reads.rests;
       version = c.take_page.ensures.namer.0 ∙ now.invariant.version;

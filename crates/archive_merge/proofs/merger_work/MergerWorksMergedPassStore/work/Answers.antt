@@ -10,14 +10,14 @@ returns-in-Err-clause-did g c =
     let had : c.args.self.now.passes ≡ Some c.in-Some.passes = cc (c.take.ensures.value, c.in-Some.is) in
     let did = c.move_by-passes.ensures in
     did_some g.M.Names.types g.M.Names.words g.M.Names.version g.D.Disk.state g.E.Disk.state c.args.self.now _ c.in-Some.passes c.move_by-passes.result.0 c.args.job.now c.move_by-passes.new.file c.args.keeper.now c.move_by-passes.new.keeper had c.replace.ensures.after did.second
-    c.segments_of-places.result.now c.segments_of-places.ensures (none_some c.args.self.now.stop (search rules)) c.move_by-passes.result.1 _ c.in-Err.is refl refl did.came did.causes did.damaged did.disk
+    c.segments_of-places.result.now c.segments_of-places.ensures.these (none_some c.args.self.now.stop (search rules)) c.move_by-passes.result.1 _ c.in-Err.is refl refl did.came did.causes did.damaged did.disk
 
 pub returns-in-Err-clause-went : goal.returns-in-Err-clause-went
 returns-in-Err-clause-went g c =
     let had : c.args.self.now.passes ≡ Some c.in-Some.passes = cc (c.take.ensures.value, c.in-Some.is) in
     let did = c.move_by-passes.ensures in
     moves_on g.M.Names.types g.M.Names.words g.M.Names.version g.D.Disk.state g.E.Disk.state c.args.self.now _ c.in-Some.passes c.move_by-passes.result.0 c.args.job.now c.move_by-passes.new.file c.args.keeper.now c.move_by-passes.new.keeper had c.replace.ensures.after did.second
-    refl did.disk.later did.named (none_some c.args.self.now.stop (search rules)) (c.args.job.now ∷ []) (c.move_by-passes.new.file ∷ [])
+    refl did.disk.later c.segments_of-places.result.now c.segments_of-places.ensures.among did.named (none_some c.args.self.now.stop (search rules)) (c.args.job.now ∷ []) (c.move_by-passes.new.file ∷ [])
     (λ s some. (0, c.args.job.now, refl, stopped_file _ s some ∙ did.came.same_file))
 
 pub returns-in_default-result-clause-ready : goal.returns-in_default-result-clause-ready
@@ -31,7 +31,7 @@ returns-in_default-result-clause-went g c =
     let had : c.args.self.now.passes ≡ Some c.in-Some.passes = cc (c.take.ensures.value, c.in-Some.is) in
     let did = c.move_by-passes.ensures in
     moves_on g.M.Names.types g.M.Names.words g.M.Names.version g.D.Disk.state g.E.Disk.state c.args.self.now _ c.in-Some.passes c.move_by-passes.result.0 c.args.job.now c.move_by-passes.new.file c.args.keeper.now c.move_by-passes.new.keeper had c.replace.ensures.after did.second
-    refl did.disk.later did.named (none_some c.args.self.now.stop (search rules)) (c.args.job.now ∷ []) (c.move_by-passes.new.file ∷ [])
+    refl did.disk.later c.segments_of-places.result.now c.segments_of-places.ensures.among did.named (none_some c.args.self.now.stop (search rules)) (c.args.job.now ∷ []) (c.move_by-passes.new.file ∷ [])
     (λ s some. let none = none_some c.args.self.now.stop (search rules) in absurd (cc (none, some)))
 
 pub returns-in_default-result-clause-did : goal.returns-in_default-result-clause-did
@@ -42,5 +42,5 @@ returns-in_default-result-clause-did g c =
     let names = c.args.self.now.second.names.now in
     let told = (g.E.Disk.state c.args.self.now.second.disk.now).seen in
     did_all g.M.Names.types g.M.Names.words g.M.Names.version g.D.Disk.state g.E.Disk.state c.args.self.now _ c.in-Some.passes c.move_by-passes.result.0 c.args.job.now c.move_by-passes.new.file c.args.keeper.now c.move_by-passes.new.keeper had c.replace.ensures.after did.second
-    c.segments_of-places.result.now c.segments_of-places.ensures none none
+    c.segments_of-places.result.now c.segments_of-places.ensures.these none none
     (subst (λ t. CameOver g.D.Disk.state (g.M.Names.version names) (texts_by g.M.Names.types g.M.Names.words names) c.segments_of-places.result.now told t c.args.keeper.now c.move_by-passes.new.keeper c.args.job.now c.move_by-passes.new.file) (ap is_ok c.in_default-result.is) did.came)
