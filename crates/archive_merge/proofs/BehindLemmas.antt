@@ -31,7 +31,7 @@ use Rattle.disk_seal.specs.declared.fixed.StoreFixed.{StoreFixed}
 use Rattle.disk_seal.specs.Draft.{journal_seen}
 use Rattle.disk_seal.specs.Fixed.{KeeperPass, fixed_of}
 use Rattle.disk_seal.specs.May.{MayAdd}
-use Rattle.disk_seal.specs.Told.{IfTold, journal_in, mark}
+use Rattle.disk_seal.specs.Told.{IfTold, journal_in}
 use Rattle.disk_seal.specs.View.{Kept, StoreView, journal_of, state_by}
 use Rattle.disk_seal.proofs.MarkLemmas.{stopped_by}
 use Rattle.disk_seal.proofs.ToldLemmas.{told_map, told_both}
