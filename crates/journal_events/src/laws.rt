@@ -1,5 +1,9 @@
 //! Laws, each the contract of a function that does nothing.
-ghost use Rattle.journal_events.specs.ByEvents.{IngestsByEvents};
+ghost use Rattle.std.specs.Prelude.{ℕ, List, Option};
+ghost use Rattle.archive_merge.specs.Behind.{SecondView};
+ghost use Rattle.archive_merge.specs.declared.file.Merged.{Merged};
+ghost use Rattle.archive_merge.specs.declared.refusal.MergeRefusal.{MergeRefusal};
+ghost use Rattle.journal_events.specs.ByEvents.{IngestsByEvents, MergesByEvents};
 
 use disk_journal::Journal;
 use ingest_workers::Job;
@@ -15,4 +19,11 @@ pub fn ingests_by_events<'d, D: Disk, S: Source>(
     after: &Journal<'d, D>,
 )
     ensures { IngestsByEvents S.left rows old.now new.now before.now after.now }
+{}
+
+/// What a merge adds to a journal is added by events of the machine too, whatever it was answered.
+pub fn merges_by_events<'d, D: Disk>(before: &Journal<'d, D>, after: &Journal<'d, D>)
+    ensures { (second : SecondView) (first : ℕ) (names : List (List ℕ)) (files : List Merged)
+        (refusal : Option MergeRefusal)
+        → MergesByEvents second first names files refusal before.now after.now }
 {}

@@ -3,4 +3,4 @@
 
 mod laws;
 
-pub use laws::ingests_by_events;
+pub use laws::{ingests_by_events, merges_by_events};
