@@ -1,11 +1,12 @@
 -- What `merge` answers: the files of a second archive come behind those of the archive, and the second disk is only read.
 use Rattle.std.specs.Prelude.{◌≡◌, ◌≢◌, ◌⊎◌, ◌+◌, ◌<◌, ℕ, zero, suc, All, false, List, [], ◌∷◌, ◌++◌, length, map, take, drop, min, Option, Some, None, IfSome, slice_get}
-use Rattle.std.specs.List.{Contains, filter_map}
+use Rattle.std.specs.List.{Contains, filter_map, flat_map}
 use mathlib.Core.List.{IsPrefix}
 use Rattle.log_seams.specs.Disk.{DiskState, KeepsBytes}
 use Rattle.log_seams.specs.Outside.{Rose}
 use Rattle.record_format.specs.declared.header.Header.{Header}
 use Rattle.row_codec.specs.Means.{AreCanonical}
+use Rattle.row_codec.specs.Numbers.{numbers_of_row}
 use Rattle.row_codec.specs.declared.namer.Which.{Which}
 use Rattle.row_codec.specs.declared.namer.Which.TheVariants.{Types, Words}
 use Rattle.archive_meaning.specs.declared.entry.SegmentEntry.{SegmentEntry}
@@ -38,9 +39,6 @@ pub record Merge : Type 0 where
   pub name : List ℕ
 
 -- ---- the content
-
-abbrev pub line_of_held : File → FileLine
-line_of_held f = line_of_file (counted f)
 
 -- a new file that is not done has the name of one of the second archive and first messages of it, and is a part
 pub record IsFrontOf (g f : File) : Type 0 where
@@ -80,24 +78,35 @@ abbrev pub texts_held : Which → Held → List (List ℕ)
 texts_held Types held = held.types
 texts_held Words held = held.words
 
--- A book may have so many texts, and there are as many of the journal and the second archive; and one more of the second.
-abbrev pub IsFullOfBoth : Header → List JournalEntry → Held → Which → ℕ → Type 0
-IsFullOfBoth h before other book count =
+-- the numbers of a segment's rows: those of their log types, or those of their words
+abbrev pub numbers_in : Which → Held → SegmentEntry → List ℕ
+numbers_in Types other s = map (λ row. row.log_type) s.rows
+numbers_in Words other s = flat_map (numbers_of_row other.types) s.rows
+
+-- a row of one of the segments needs the text: it has its number
+abbrev pub IsNeeded : List JournalEntry → Held → Which → List ℕ → Type 0
+IsNeeded others other book text = (file : ℕ) × (s : SegmentEntry) × Contains (filter_map (in_file file) others) s
+    × (number : ℕ) × Contains (numbers_in book other s) number × (slice_get (texts_held book other) number ≡ Some text)
+
+-- A book may have so many texts, and there are as many of the journal and of those that rows of the second archive need; and one
+-- more of the second.
+abbrev pub IsFullOfBoth : Header → List JournalEntry → List JournalEntry → Held → Which → ℕ → Type 0
+IsFullOfBoth h before others other book count =
     (count ≡ limit_of (header_limits h) book)
-    × IsFullBy (λ text. Contains (book_texts book before) text ⊎ Contains (texts_held book other) text)
+    × IsFullBy (λ text. Contains (book_texts book before) text ⊎ IsNeeded others other book text)
     (Contains (texts_held book other)) count
 
--- The archive ended behind some entries, and goes past its limit of length with the record of a segment and those of texts of
--- the second archive that these entries do not have. It is this segment of the second archive as one of a file with this number:
--- by these texts its rows are the encodings of the same messages.
-pub record LacksRoom (h : Header) (before es : List JournalEntry) (other : Held) (number : ℕ) (next : SegmentEntry)
+-- The archive ended behind some entries, and goes past its limit of length with the record of a segment and those of texts that
+-- rows of the second archive need and these entries do not have. It is this segment of the second archive as one of a file with
+-- this number: by these texts its rows are the encodings of the same messages.
+pub record LacksRoom (h : Header) (before es others : List JournalEntry) (other : Held) (number : ℕ) (next : SegmentEntry)
     (end need : ℕ) : Type 0 where
   pub front : List JournalEntry
   pub begins : IsPrefix before front × IsPrefix front es
   pub ends : end ≡ end_of h front
   pub past : h.length_limit < end + need
   pub texts : Which → List (List ℕ)
-  pub are : (book : Which) → HasTextsBehind (Contains (texts_held book other)) (book_texts book front) (texts book)
+  pub are : (book : Which) → HasTextsBehind (IsNeeded others other book) (book_texts book front) (texts book)
   pub segment : SegmentEntry
   pub same : IsSegmentAs number next segment
   pub messages : List (List ℕ)
@@ -136,10 +145,10 @@ HasJournalCause h before es held g others other m done (MergeRefusal.ArchiveFull
     MayCome h held g other × (end ≡ end_of h es)
     × (need ≡ files_size (take 512 (drop (length m.files) other.names))) × (h.length_limit < end + need)
 HasJournalCause h before es held g others other m done (MergeRefusal.Full book count) =
-    MayCome h held g other × IsStopped others m done × IsFullOfBoth h before other book count
+    MayCome h held g other × IsStopped others m done × IsFullOfBoth h before others other book count
 HasJournalCause h before es held g others other m done (MergeRefusal.SegmentFull end need) =
     MayCome h held g other
-    × ((stopped : IsStopped others m done) × LacksRoom h before es other (held + done) stopped.next end need)
+    × ((stopped : IsStopped others m done) × LacksRoom h before es others other (held + done) stopped.next end need)
 HasJournalCause h before es held g others other m done _ = Unit {0}
 
 -- And what it rests on by the disks alone.
@@ -152,12 +161,16 @@ HasDiskCause old new second second_new _ = Unit {0}
 
 -- ---- which archive comes first
 
+-- it is found before anything is written that the second archive may not come behind
+abbrev pub MayNotCome : Option MergeRefusal → Type 0
+MayNotCome (Some (MergeRefusal.VersionDiffers first second)) = Unit {0}
+MayNotCome (Some (MergeRefusal.TooManyFiles told more)) = Unit {0}
+MayNotCome _ = ⊥
+
 -- the refusal is of the second archive, or of how it goes with the first
 abbrev pub IsOfSecond : Option MergeRefusal → Type 0
 IsOfSecond (Some (MergeRefusal.SecondDamaged at)) = Unit {0}
-IsOfSecond (Some (MergeRefusal.VersionDiffers first second)) = Unit {0}
-IsOfSecond (Some (MergeRefusal.TooManyFiles held more)) = Unit {0}
-IsOfSecond _ = ⊥
+IsOfSecond refusal = MayNotCome refusal
 
 -- for this a merge may end before the archive is open
 abbrev pub MayEndOpening : Option MergeRefusal → Type 0
@@ -166,23 +179,20 @@ MayEndOpening (Some (MergeRefusal.Damaged at)) = Unit {0}
 MayEndOpening (Some MergeRefusal.OutOfMemory) = Unit {0}
 MayEndOpening _ = ⊥
 
--- where the bytes are told, a walk past whole records comes to a closed gate
-abbrev pub CanBeOpened : Option (List ℕ) → Type 0
-CanBeOpened told = IfSome told (λ bytes. (at : ℕ) × IsLastGate at bytes)
-
 -- The archive comes before the second one, whatever its bytes are. Damage of it is told at its place, and no file then. But for
--- this, for a disk that failed and for want of memory, it could be opened. Where a cause of the second one is told, and no file,
--- nothing was written, and no call of the archive's disk failed.
+-- this, for a disk that failed and for want of memory, it could be opened: a walk past whole records comes to a closed gate.
+-- Where a cause of the second one is told, and no file, nothing was written, and no call of the archive's disk failed.
 pub record TellsInOrder (m : Merge) (old new : DiskState) : Type 0 where
   pub damaged : (at : ℕ) → m.refusal ≡ Some (MergeRefusal.Damaged at) → IsDamagedAt at old new × (m.files ≡ [])
-  pub opened : ¬ MayEndOpening m.refusal → CanBeOpened old.seen
+  pub opened : ¬ MayEndOpening m.refusal → IfSome old.seen (λ bytes. (at : ℕ) × IsLastGate at bytes)
   pub second : IsOfSecond m.refusal → m.files ≡ [] → KeepsBytes old new × (new.faults ≡ old.faults)
 
 -- ---- the answer
 
--- The journal begins with the old one, and each image since the start stands for a journal between the two. The old files are as
--- they were. Behind them stand the new ones as they are told: so many are done, and are the second archive's, in segments as there;
--- where nothing was refused all are, and it may come behind. All texts that were added are the second archive's.
+-- The journal begins with the old one, and each image since the start stands for a journal between the two. The old files are
+-- as they were. Behind them stand the new ones as they are told: so many are done, and are the second archive's, in segments as
+-- there; where nothing was refused all are, and it may come behind. Each text that was added is one that a row of the second
+-- archive needs.
 pub record TakesOver {bytes : List ℕ} (second : Option (List ℕ)) (h : Header) (before : List JournalEntry)
     (stood : StandsFor bytes h before) (m : Merge) (old new : DiskState) : Type 0 where
   pub added : List JournalEntry
@@ -190,22 +200,16 @@ pub record TakesOver {bytes : List ℕ} (second : Option (List ℕ)) (h : Header
   pub files : List File
   pub content_is : (image : List ℕ) (stands : StandsFor image h (before ++ added))
       → content_of stands.legal.held ≡ content_of stood.legal.held ++ files
-  pub told : m.files ≡ map line_of_held files
+  pub told : m.files ≡ map (λ f. line_of_file (counted f)) files
   pub done : ℕ
   pub fronts : OfJournal second (λ g others other. AreFrontsOf done (content_of other) files)
   pub cuts : OfJournal second (λ g others other. (i : ℕ) → i < length files → AreSegmentsAs (length stood.legal.held.names + i)
       (filter_map (in_file i) others) (filter_map (in_file (length stood.legal.held.names + i)) added))
-  pub texts : OfJournal second (λ g others other. (book : Which) → All (Contains (texts_held book other)) (book_texts book added))
+  pub texts : OfJournal second (λ g others other. (book : Which) → All (IsNeeded others other book) (book_texts book added))
   pub all : m.refusal ≡ None → OfJournal second (λ g others other.
       (files ≡ content_of other) × MayCome h (length stood.legal.held.names) g other)
   pub cause : IfSome m.refusal (λ refusal. OfJournal second (λ g others other.
       HasJournalCause h before (before ++ added) (length stood.legal.held.names) g others other m done refusal))
-
--- it is found before anything is written that the second archive may not come behind
-abbrev pub MayNotCome : Option MergeRefusal → Type 0
-MayNotCome (Some (MergeRefusal.VersionDiffers first second)) = Unit {0}
-MayNotCome (Some (MergeRefusal.TooManyFiles told more)) = Unit {0}
-MayNotCome _ = ⊥
 
 -- The new files, numbered on from `first`, are those that the archive has behind its old ones. A second archive without files
 -- leaves the first alone, and so does one that may not come behind, of which no file is told. The second disk was only read.

@@ -1,7 +1,8 @@
 -- What a refusal of a merge rests on, as it is told.
-use Rattle.std.proofs.Common.{◌≡◌, ◌+◌, ◌<◌, ◌≤◌, ◌⊎◌, refl, sym, ap, subst, ◌∙◌, ℕ, zero, suc, true, List, [], ◌∷◌, length, Some, arith}
+use Rattle.std.proofs.Common.{◌≡◌, ◌+◌, ◌<◌, ◌≤◌, ◌⊎◌, ⊎_elim, inl, inr, drop, refl, sym, ap, subst, ◌∙◌, ℕ, zero, suc, true, List, [], ◌∷◌, length, Some, arith}
 use Rattle.std.specs.Prelude.{is_some, min, slice_get}
 use Rattle.std.specs.List.{Contains}
+use Rattle.std.proofs.lemmas.List.Elements.{All-weaker}
 use mathlib.Core.List.{IsPrefix}
 use Rattle.log_seams.specs.declared.disk.Disk.{Ghosts as DiskGhosts}
 use Rattle.record_format.specs.declared.header.Header.{Header}
@@ -20,12 +21,12 @@ use Rattle.archive_open.specs.declared.files.FileEntry.{FileEntry}
 use Rattle.ingest_meaning.specs.Dictionaries.{HasTextsBehind, IsFullBy, book_texts, header_limits, limit_of}
 use Rattle.ingest_meaning.specs.Room.{needed_behind}
 use Rattle.ingest_workers.specs.Ingested.{told_entries}
-use Rattle.archive_merge.specs.Behind.{AreOfBoth, IsFullByBoth, LackedRoom, SecondView, old_texts}
+use Rattle.archive_merge.specs.Behind.{AreOfBoth, IsFullByBoth, LackedRoom, SecondView, needed_of, old_texts}
 use Rattle.archive_merge.specs.Laws.{IsSegmentAt, view_in}
 use Rattle.archive_merge.specs.declared.file.Merged.{Merged}
 use Rattle.archive_merge.proofs.SealingLemmas.{canonical_long}
 use Rattle.file_lines.specs.Directory.{FileLine}
-use Rattle.command_answers.specs.Merging.{IsFullOfBoth, LacksRoom, texts_held}
+use Rattle.command_answers.specs.Merging.{IsFullOfBoth, IsNeeded, LacksRoom, texts_held}
 use Rattle.merge_command.specs.Came.{lines_by, name_in}
 use Rattle.write_commands.proofs.LeavesLemmas.{of_told}
 
@@ -36,19 +37,37 @@ pub texts_same : (s : SecondView) (b : Shown) (bytes : List ℕ) (g : Header) (e
 texts_same s b bytes g es other view is Types = ap (λ (v : SecondView). v.texts.types) view ∙ ap (λ (k : Kept). k.types) is.kept
 texts_same s b bytes g es other view is Words = ap (λ (v : SecondView). v.texts.words) view ∙ ap (λ (k : Kept). k.words) is.kept
 
+-- what is said of texts, where they are also of a wider kind
+full_wider : (P Q next : List ℕ → Type 0) (count : ℕ) → ((t : List ℕ) → P t → Q t) → IsFullBy P next count → IsFullBy Q next count
+full_wider P Q next count wider full = record {
+  texts = full.texts;
+  all = full.all;
+  distinct = full.distinct;
+  each = All-weaker P Q wider full.texts full.each;
+  text = full.text;
+  is = full.is;
+  new = full.new;
+}
+
+behind_wider : (P Q : List ℕ → Type 0) (first texts : List (List ℕ)) → ((t : List ℕ) → P t → Q t) → HasTextsBehind P first texts → HasTextsBehind Q first texts
+behind_wider P Q first texts wider has = record { begins = has.begins; distinct = has.distinct; others = All-weaker P Q wider (drop (length first) texts) has.others }
+
 module _ {D : Type 0} {d : DiskGhosts D} (s : SecondView) (h : Header) (before : List JournalEntry) (j after : Journal D d) (told : is_some (state_of j).disk.seen ≡ true) (header : j.header ≡ h) (entries : told_entries (state_of j) ≡ before)
-    (es : List JournalEntry) (left : told_entries (state_of after) ≡ es) (other : Held) (texts : (book : Which) → old_texts s book ≡ texts_held book other) where
+    (es : List JournalEntry) (left : told_entries (state_of after) ≡ es) (others : List JournalEntry) (other : Held) (texts : (book : Which) → old_texts s book ≡ texts_held book other)
+    (needed : (book : Which) (t : List ℕ) → needed_of s book t → IsNeeded others other book t) where
   -- a dictionary that is full
-  pub full_of_both : (book : Which) (count : ℕ) → IsFullByBoth s j book count → IsFullOfBoth h before other book count
+  pub full_of_both : (book : Which) (count : ℕ) → IsFullByBoth s j book count → IsFullOfBoth h before others other book count
   full_of_both book count full =
-      subst (λ ts. (count ≡ limit_of (header_limits h) book) × IsFullBy (λ t. Contains (book_texts book before) t ⊎ Contains ts t) (Contains ts) count) (texts book)
-      (subst (λ es. (count ≡ limit_of (header_limits h) book) × IsFullBy (λ t. Contains (book_texts book es) t ⊎ Contains (old_texts s book) t) (Contains (old_texts s book)) count) entries
-      (subst (λ x. (count ≡ limit_of (header_limits x) book) × IsFullBy (λ t. Contains (book_texts book (told_entries (state_of j))) t ⊎ Contains (old_texts s book) t) (Contains (old_texts s book)) count) header
-      (of_told (is_some (state_of j).disk.seen) told full)))
+      let was = of_told (is_some (state_of j).disk.seen) told full in
+      subst (λ ts. (count ≡ limit_of (header_limits h) book) × IsFullBy (λ t. Contains (book_texts book before) t ⊎ IsNeeded others other book t) (Contains ts) count) (texts book)
+      (subst (λ es. (count ≡ limit_of (header_limits h) book) × IsFullBy (λ t. Contains (book_texts book es) t ⊎ IsNeeded others other book t) (Contains (old_texts s book)) count) entries
+      (subst (λ x. (count ≡ limit_of (header_limits x) book) × IsFullBy (λ t. Contains (book_texts book (told_entries (state_of j))) t ⊎ IsNeeded others other book t) (Contains (old_texts s book)) count) header
+      (was.0, full_wider (λ t. Contains (book_texts book (told_entries (state_of j))) t ⊎ needed_of s book t) (λ t. Contains (book_texts book (told_entries (state_of j))) t ⊎ IsNeeded others other book t) (Contains (old_texts s book)) count
+      (λ t. ⊎_elim (λ (a : Contains (book_texts book (told_entries (state_of j))) t). inl a) (λ (b : needed_of s book t). inr (needed book t b))) was.1)))
 
   -- a segment that does not fit, which is this one of the second archive's journal
   pub lacks_room : (bytes : List ℕ) → s.told ≡ Some bytes → s.version ≡ h.version → (next : SegmentEntry) (first file done number end need : ℕ) → file ≡ number → h.length_limit < end + need
-      → (lacked : LackedRoom (AreOfBoth s) s first file done j after end need) → IsSegmentAt bytes lacked.place next → LacksRoom h before es other number next end need
+      → (lacked : LackedRoom (AreOfBoth s) s first file done j after end need) → IsSegmentAt bytes lacked.place next → LacksRoom h before es others other number next end need
   lacks_room bytes told_is version next first file done number end need same past lacked at = record {
     front = lacked.front;
     begins = (subst (λ l. IsPrefix l lacked.front) entries lacked.between.0, subst (λ l. IsPrefix lacked.front l) left lacked.between.1);
@@ -84,9 +103,9 @@ module _ {D : Type 0} {d : DiskGhosts D} (s : SecondView) (h : Header) (before :
       in_book Types = lacked.types
       in_book Words = lacked.words
 
-      are : (book : Which) → HasTextsBehind (Contains (texts_held book other)) (book_texts book lacked.front) (in_book book)
-      are Types = subst (λ ts. HasTextsBehind (Contains ts) (book_texts Types lacked.front) lacked.types) (texts Types) lacked.has_types
-      are Words = subst (λ ts. HasTextsBehind (Contains ts) (book_texts Words lacked.front) lacked.words) (texts Words) lacked.has_words
+      are : (book : Which) → HasTextsBehind (IsNeeded others other book) (book_texts book lacked.front) (in_book book)
+      are Types = behind_wider (needed_of s Types) (IsNeeded others other Types) (book_texts Types lacked.front) lacked.types (needed Types) lacked.has_types
+      are Words = behind_wider (needed_of s Words) (IsNeeded others other Words) (book_texts Words lacked.front) lacked.words (needed Words) lacked.has_words
 
 -- ---- the file that stopped a merge
 

@@ -15,13 +15,15 @@ use Rattle.archive_meaning.specs.Spelled.{types_of}
 use Rattle.archive_meaning.specs.Stands.{IsLegal, StandsFor}
 use Rattle.archive_meaning.proofs.RunLemmas.{one_held, runs_split}
 use Rattle.archive_meaning.proofs.SumsLemmas.{messages_joined}
+use Rattle.archive_open.specs.Shown.{counted}
 use Rattle.archive_open.specs.declared.files.FileEntry.{FileEntry}
 use Rattle.ingest_meaning.specs.Parts.{in_file}
 use Rattle.ingest_meaning.specs.WordsIn.{words_of}
 use Rattle.ingest_workers.specs.Journal.{FrontHolds}
 use Rattle.archive_merge.specs.Named.{AreNamesOf}
 use Rattle.archive_merge.specs.declared.file.Merged.{Merged}
-use Rattle.command_answers.specs.Merging.{AreFrontsOf, line_of_held, name_alone}
+use Rattle.file_lines.specs.Directory.{FileLine, line_of_file}
+use Rattle.command_answers.specs.Merging.{AreFrontsOf, name_alone}
 use Rattle.merge_command.specs.Came.{lines_by}
 use Rattle.write_commands.proofs.JoinLemmas.{HasNone, content_grows, new_file, with_names}
 use Rattle.write_commands.proofs.PieceLemmas.{HasBehind, HasGrown, HasSegments, HoldsOf, IsNewFrom, grown, has_ended, has_last, rows_in, segments_held}
@@ -235,6 +237,9 @@ all_same first ps qs k (name ∷ names) each =
   where
     later : (i : ℕ) → i < length names → IsSameAt ps qs (first + ((k + 1) + i)) ((k + 1) + i)
     later i less = let same : k + suc i ≡ (k + 1) + i = omega arith in subst (λ m. IsSameAt ps qs (first + m) m) same (each (suc i) (omega (arith, less)))
+
+abbrev pub line_of_held : File → FileLine
+line_of_held f = line_of_file (counted f)
 
 -- the lines of the new files are those of what is held of them
 pub told_lines : (first : ℕ) (ps : List Piece) (k : ℕ) (files : List FileEntry) (ms : List Merged) → length ms ≤ length files

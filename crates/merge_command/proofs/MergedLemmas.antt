@@ -13,6 +13,7 @@ use Rattle.disk_journal.specs.Journal.{state_of}
 use Rattle.disk_journal.specs.declared.journal.Journal.{Journal}
 use Rattle.disk_seal.specs.declared.files.RegisterRefusal.{RegisterRefusal}
 use Rattle.disk_seal.specs.declared.files.RegisterRefusal.TheVariants.{DiskFault}
+use Rattle.row_codec.specs.declared.namer.Which.{Which}
 use Rattle.archive_meaning.specs.declared.entry.JournalEntry.{JournalEntry}
 use Rattle.archive_meaning.specs.declared.entry.JournalEntry.TheVariants.{Files, Types, Words, Segment}
 use Rattle.archive_meaning.specs.Held.{Held, nothing_held}
@@ -27,9 +28,10 @@ use Rattle.archive_open.specs.declared.files.FileEntry.{FileEntry}
 use Rattle.ingest_meaning.specs.Room.{files_size}
 use Rattle.ingest_workers.specs.Ingested.{told_entries}
 use Rattle.search_walk.specs.Journal.{OfJournal}
-use Rattle.archive_merge.specs.Behind.{AreOfBoth, HasRun, HasStopped, IsFullByBoth, SecondView, places_for}
+use Rattle.archive_merge.specs.Behind.{AreOfBoth, HasRun, HasStopped, IsFullByBoth, SecondView, needed_of, places_for}
 use Rattle.archive_merge.specs.Laws.{FilesAreRuns, IsSegmentAt, SegmentsAreTheirs, TextsAreFair, view_in}
 use Rattle.archive_merge.specs.Merging.{HasMergeCause, done_by}
+use Rattle.archive_merge.proofs.NeededLemmas.{zip_contains}
 use Rattle.archive_merge.specs.Named.{IsShort, names_of}
 use Rattle.archive_merge.specs.Runs.{SoFar, held_of}
 use Rattle.archive_merge.specs.declared.cause.MergeCause.{MergeCause}
@@ -39,14 +41,14 @@ use Rattle.archive_merge.specs.declared.refusal.MergeRefusal.{MergeRefusal as Wh
 use Rattle.archive_merge.specs.declared.refusal.MergeRefusal.TheVariants.{LongName, Names, Stopped, OutOfMemory as NoMemory}
 use Rattle.command_refusals.specs.GoesOn.{DiskGoesOn}
 use Rattle.command_answers.specs.Ingested.{FromArchive}
-use Rattle.command_answers.specs.Merging.{HasDiskCause, HasJournalCause, IsStopped, LacksRoom, MayCome, Merge, TakesOver}
+use Rattle.command_answers.specs.Merging.{HasDiskCause, HasJournalCause, IsNeeded, IsStopped, LacksRoom, MayCome, Merge, TakesOver}
 use Rattle.merge_command.specs.Came.{lines_by, name_at, name_in, place_stopped, refusal_by}
 use Rattle.write_commands.specs.JournalLeft.{StandsBetween}
 use Rattle.write_commands.proofs.LeavesLemmas.{begun_sooner, from_archive, of_told, prefix_same, still_between}
 use Rattle.merge_command.proofs.CauseLemmas.{full_of_both, lacks_room, line_at, texts_same}
 use Rattle.merge_command.proofs.OverLemmas.{names_shown}
 use Rattle.merge_command.proofs.RefusedLemmas.{of_all}
-use Rattle.merge_command.proofs.SegmentLemmas.{zip_contains}
+use Rattle.merge_command.proofs.SegmentLemmas.{needed_theirs}
 
 -- ---- bytes that stand for no journal
 
@@ -164,6 +166,10 @@ module _ (runs : FilesAreRuns) (fair : TextsAreFair) (theirs : SegmentsAreTheirs
           own.2,
         )
 
+    -- what rows of the second archive need, rows of its journal's segments need
+    needed : (book : Which) (text : List ℕ) → needed_of s book text → IsNeeded es stood.legal.held book text
+    needed = needed_theirs theirs s b bytes g es stood (view bytes is) shown
+
     -- where a dictionary was full
     full_stopped : (file : ℕ) (cause : MergeCause) → HasStopped (IsFullByBoth s j) (AreOfBoth s) s first ms j after (record { file = file; cause = cause }) → (m : Merge) → m.files ≡ lines_by b.files ms → m.name ≡ name_at b.files (Some (file - first)) → IsStopped es m (file - first)
     full_stopped file cause stopped m files name =
@@ -173,13 +179,13 @@ module _ (runs : FilesAreRuns) (fair : TextsAreFair) (theirs : SegmentsAreTheirs
     -- where a segment did not fit
     room_stopped : (h : Header) (before after_is : List JournalEntry) (held : ℕ) → is_some (state_of j).disk.seen ≡ true → j.header ≡ h → told_entries (state_of j) ≡ before → told_entries (state_of after) ≡ after_is → g.version ≡ h.version → first ≡ held → (file end need : ℕ)
         → HasStopped (IsFullByBoth s j) (AreOfBoth s) s first ms j after (record { file = file; cause = ArchiveFull end need }) → (m : Merge) → m.files ≡ lines_by b.files ms → m.name ≡ name_at b.files (Some (file - first))
-        → (stop : IsStopped es m (file - first)) × LacksRoom h before after_is stood.legal.held (held + (file - first)) stop.next end need
+        → (stop : IsStopped es m (file - first)) × LacksRoom h before after_is es stood.legal.held (held + (file - first)) stop.next end need
     room_stopped h before after_is held told header entries left version number file end need stopped m files name =
         let lacked = of_told (is_some (state_of j).disk.seen) told stopped.cause.1 in
         let stop = is_stopped file (ArchiveFull end need) stopped lacked.place (lacked.there (run_of (stopped.file.file - first)).sorted) (sym lacked.at ∙ lacked.next) m files name in
         let same : stopped.file.file ≡ held + (file - first) = omega (arith, numbers stopped.place stopped.file stopped.is, stopped.file_is, number) in (
           stop.0,
-          lacks_room s h before j after told header entries after_is left stood.legal.held (texts_same s b bytes g es stood.legal.held (view bytes is) shown) bytes is (version_is ∙ version) stop.0.next first stopped.file.file stopped.file.messages (held + (file - first)) end need same
+          lacks_room s h before j after told header entries after_is left es stood.legal.held (texts_same s b bytes g es stood.legal.held (view bytes is) shown) needed bytes is (version_is ∙ version) stop.0.next first stopped.file.file stopped.file.messages (held + (file - first)) end need same
               (subst (λ (x : Header). x.length_limit < end + need) header stopped.cause.0) lacked stop.1,
         )
 
@@ -204,7 +210,7 @@ module _ (runs : FilesAreRuns) (fair : TextsAreFair) (theirs : SegmentsAreTheirs
         over_stood s.told b (λ g es other. HasJournalCause h before (before ++ added) held g es other m (file - first) (refusal_by last (Stopped file (Full book count)))) opens (λ bytes g es stood is shown. (
           may g es stood.legal.held shown,
           full_stopped bytes g es stood is shown file (Full book count) cause m files name,
-          full_of_both s h before j after told header entries (before ++ added) (left (λ e. absurd (cc (e)))) stood.legal.held (texts_same s b bytes g es stood.legal.held (view bytes is) shown) book count cause.cause,
+          full_of_both s h before j after told header entries (before ++ added) (left (λ e. absurd (cc (e)))) es stood.legal.held (texts_same s b bytes g es stood.legal.held (view bytes is) shown) (needed bytes g es stood is shown) book count cause.cause,
         ))
     journal_cause (Stopped file (ArchiveFull end need)) left name cause =
         over_stood s.told b (λ g es other. HasJournalCause h before (before ++ added) held g es other m (file - first) (refusal_by last (Stopped file (ArchiveFull end need)))) opens (λ bytes g es stood is shown. (

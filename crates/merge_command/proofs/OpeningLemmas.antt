@@ -9,7 +9,7 @@ use Rattle.disk_journal.specs.Calls.{HasNoHeader}
 use Rattle.disk_journal.specs.declared.refusals.StartRefusal.{StartRefusal}
 use Rattle.archive_meaning.specs.declared.entry.JournalEntry.{JournalEntry}
 use Rattle.archive_meaning.specs.Held.{Held}
-use Rattle.archive_open.specs.Shown.{HasLastGate, RefusedAt, Shown, StandsForNone}
+use Rattle.archive_open.specs.Shown.{HasLastGate, IsLastGate, RefusedAt, Shown, StandsForNone}
 use Rattle.archive_open.specs.declared.refusal.ArchiveRefusal.{ArchiveRefusal}
 use Rattle.archive_open.proofs.OpenLemmas.{start_refused}
 use Rattle.search_walk.specs.Journal.{OfJournal}
@@ -19,7 +19,7 @@ use Rattle.command_refusals.specs.Reading.{OverJournal}
 use Rattle.command_refusals.specs.declared.outcome.MergeRefusal.{MergeRefusal}
 use Rattle.command_refusals.proofs.GoingLemmas.{KeepsBytes-same}
 use Rattle.command_answers.specs.Known.{seen_if, told_if}
-use Rattle.command_answers.specs.Merging.{CanBeOpened, HasDiskCause, HasJournalCause, IsOfSecond, MayEndOpening, Merge, Merges, TellsInOrder}
+use Rattle.command_answers.specs.Merging.{HasDiskCause, HasJournalCause, IsOfSecond, MayEndOpening, Merge, Merges, TellsInOrder}
 use Rattle.merge_command.specs.Came.{Agrees, ComesBehind, RefusesSecond, merge_by, refused_by}
 use Rattle.merge_command.specs.declared.over.Came.{Came}
 use Rattle.write_commands.proofs.LentLemmas.{keeps_twice, looked_told}
@@ -116,6 +116,10 @@ pub tells_with : (old new : DiskState) (result : Result Came MergeRefusal) (r r'
 tells_with old new result r r' is same tells = subst (λ x. TellsInOrder (merge_by x) old new) (sym (is ∙ ap (λ (x : MergeRefusal). Err x) same)) tells
 
 -- ---- behind the opening
+
+-- where the bytes are told, a walk past whole records comes to a closed gate
+abbrev pub CanBeOpened : Option (List ℕ) → Type 0
+CanBeOpened told = IfSome told (λ bytes. (at : ℕ) × IsLastGate at bytes)
 
 -- an archive that was opened has a last gate
 gate_of : (told : Option (List ℕ)) (a : Shown) → HasLastGate told a → CanBeOpened told

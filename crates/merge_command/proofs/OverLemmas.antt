@@ -29,11 +29,11 @@ use Rattle.archive_merge.specs.Named.{AreNamesOf, names_of}
 use Rattle.archive_merge.specs.Runs.{SoFar, held_of}
 use Rattle.archive_merge.specs.declared.file.Merged.{Merged}
 use Rattle.command_answers.specs.Ingested.{LeavesJournal}
-use Rattle.command_answers.specs.Merging.{AreFrontsOf, AreSegmentsAs, line_of_held}
+use Rattle.command_answers.specs.Merging.{AreFrontsOf, AreSegmentsAs}
 use Rattle.merge_command.specs.Came.{lines_by}
 use Rattle.write_commands.proofs.LeavesLemmas.{of_told}
 use Rattle.write_commands.proofs.PieceLemmas.{HoldsOf, IsNewFrom}
-use Rattle.merge_command.proofs.ContentLemmas.{IsFrontAt, IsNoneAt, IsSameAt, all_same, content_is, fronts_are, holds, length-files, told_lines}
+use Rattle.merge_command.proofs.ContentLemmas.{IsFrontAt, IsNoneAt, IsSameAt, all_same, content_is, fronts_are, holds, length-files, line_of_held, told_lines}
 use Rattle.merge_command.proofs.SegmentLemmas.{cuts_theirs}
 
 -- ---- what the disk is left with

@@ -1,7 +1,6 @@
 -- A merge that was refused before anything was written.
 use Rattle.std.proofs.Common.{◌≡◌, ◌∙◌, refl, sym, ap, subst, arith, ℕ, List, [], ◌++◌, length, Option, Some, None, append-nil}
 use Rattle.std.specs.Prelude.{All, IfSome}
-use Rattle.std.specs.List.{Contains}
 use Rattle.std.proofs.lemmas.List.Elements.{All-nil}
 use Rattle.log_seams.specs.Disk.{DiskState, KeepsBytes}
 use Rattle.record_format.specs.declared.header.Header.{Header}
@@ -16,7 +15,7 @@ use Rattle.ingest_meaning.specs.Dictionaries.{book_texts}
 use Rattle.search_walk.specs.Journal.{OfJournal}
 use Rattle.command_refusals.specs.declared.outcome.MergeRefusal.{MergeRefusal}
 use Rattle.command_answers.specs.Ingested.{FromArchive, LeavesJournal, TakesNothing}
-use Rattle.command_answers.specs.Merging.{AreFrontsOf, HasDiskCause, HasJournalCause, Merges, TakesOver, texts_held}
+use Rattle.command_answers.specs.Merging.{AreFrontsOf, HasDiskCause, HasJournalCause, IsNeeded, Merges, TakesOver}
 use Rattle.merge_command.specs.Came.{refused_by}
 
 -- what holds of each journal holds of the one that the bytes stand for
@@ -48,14 +47,14 @@ took_nothing refusal old new second h before stood nothing cause = record {
   done = 0;
   fronts = of_all second (λ g es other. AreFrontsOf 0 (content_of other) []) (λ g es other. tt);
   cuts = of_all second _ (λ g es other i less. absurd (omega (arith, less)));
-  texts = of_all second (λ g es other. (book : Which) → All (Contains (texts_held book other)) (book_texts book [])) (λ g es other. no_texts other);
+  texts = of_all second (λ g es other. (book : Which) → All (IsNeeded es other book) (book_texts book [])) (λ g es other. no_texts es other);
   all = λ none. absurd (cc (none));
   cause = cause;
 }
   where
-    no_texts : (other : Held) (book : Which) → All (Contains (texts_held book other)) (book_texts book [])
-    no_texts other Types = All-nil (Contains other.types)
-    no_texts other Words = All-nil (Contains other.words)
+    no_texts : (es : List JournalEntry) (other : Held) (book : Which) → All (IsNeeded es other book) (book_texts book [])
+    no_texts es other Types = All-nil (IsNeeded es other Types)
+    no_texts es other Words = All-nil (IsNeeded es other Words)
 
     same : (image : List ℕ) (stands : StandsFor image h (before ++ [])) → content_of stands.legal.held ≡ content_of stood.legal.held ++ []
     same image stands = held_same ∙ sym (append-nil (content_of stood.legal.held))

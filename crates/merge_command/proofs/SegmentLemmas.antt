@@ -1,20 +1,25 @@
 -- The segments of files that were merged, beside those of the second archive's journal.
-use Rattle.std.proofs.Common.{refl, subst, ◌∙◌, ℕ, zero, suc, List, [], ◌∷◌, arith}
-use Rattle.std.specs.List.{AllZip, Contains}
+use Rattle.std.proofs.Common.{◌≡◌, subst, ◌∙◌, ℕ, List, [], ◌∷◌}
+use Rattle.std.specs.List.{AllZip}
+use Rattle.record_format.specs.declared.header.Header.{Header}
+use Rattle.row_codec.specs.declared.namer.Which.{Which}
+use Rattle.row_codec.specs.declared.namer.Which.TheVariants.{Types, Words}
+use Rattle.archive_meaning.specs.declared.entry.JournalEntry.{JournalEntry}
 use Rattle.archive_meaning.specs.declared.entry.SegmentEntry.{SegmentEntry}
+use Rattle.archive_meaning.specs.Stands.{StandsFor}
+use Rattle.archive_open.specs.Shown.{IsArchiveOf, Shown}
 use Rattle.archive_open.specs.declared.segments.SegmentPlace.{SegmentPlace}
+use Rattle.archive_merge.specs.Behind.{SecondView, needed_of}
 use Rattle.archive_merge.specs.Files.{AreCutAs}
-use Rattle.archive_merge.specs.Laws.{IsSegmentAt}
-use Rattle.command_answers.specs.Merging.{AreSegmentsAs}
+use Rattle.archive_merge.specs.Laws.{IsSegmentAt, SegmentsAreTheirs, view_in}
+use Rattle.archive_merge.proofs.NeededLemmas.{needed_type, needed_word}
+use Rattle.command_answers.specs.Merging.{AreSegmentsAs, IsNeeded}
 
--- what stands in the first list has what stands at its place in the second
-pub zip_contains : {A B : Type 0} (R : A → B → Type 0) (xs : List A) (ys : List B) (x : A) → AllZip R xs ys → Contains xs x → (y : B) × Contains ys y × R x y
-zip_contains R [] ys x are (k, within, is) = absurd (omega (arith, within))
-zip_contains R (z ∷ xs) [] x are there = absurd are
-zip_contains {A} {B} R (z ∷ xs) (y ∷ ys) x are (zero, within, is) = (y, (0, omega arith, refl), subst (λ (w : A). R w y) is are.0)
-zip_contains R (z ∷ xs) (y ∷ ys) x are (suc k, within, is) =
-    let rest = zip_contains R xs ys x are.1 (k, omega (arith, within), is) in
-    (rest.0, (suc rest.1.0, omega (arith, rest.1.1), rest.1.2), rest.2)
+-- what rows of the archive need, rows of its journal's segments need
+pub needed_theirs : SegmentsAreTheirs → (s : SecondView) (b : Shown) (bytes : List ℕ) (g : Header) (es : List JournalEntry) (stood : StandsFor bytes g es) → s ≡ view_in bytes b → IsArchiveOf b g es stood.legal.held
+    → (book : Which) (text : List ℕ) → needed_of s book text → IsNeeded es stood.legal.held book text
+needed_theirs theirs s b bytes g es stood view shown Types text needs = needed_type theirs b bytes g es stood shown text (subst (λ v. needed_of v Types text) view needs)
+needed_theirs theirs s b bytes g es stood view shown Words text needs = needed_word theirs b bytes g es stood shown text (subst (λ v. needed_of v Words text) view needs)
 
 -- segments that are as those at places are as the journal's
 pub cuts_theirs : (bytes : List ℕ) (number : ℕ) (places : List SegmentPlace) (were ss : List SegmentEntry) → AllZip (IsSegmentAt bytes) places were → AreCutAs number places ss → AreSegmentsAs number were ss

@@ -1,8 +1,8 @@
 -- What an archive holds with the files of a second one.
 use Rattle.std.proofs.Common.{◌≡◌, ◌+◌, ◌≤◌, sym, ap, subst, ◌∙◌, ℕ, List, ◌++◌, length, Option, Some, None, arith, true}
 use Rattle.std.specs.Prelude.{All, IfSome, is_some, slice_get}
-use Rattle.std.specs.List.{Contains}
 use Rattle.std.proofs.lemmas.List.{length-map}
+use Rattle.std.proofs.lemmas.List.Elements.{All-weaker}
 use Rattle.log_seams.specs.declared.disk.Disk.{Ghosts as DiskGhosts}
 use Rattle.record_format.specs.declared.header.Header.{Header}
 use Rattle.disk_journal.specs.Journal.{state_of}
@@ -22,7 +22,7 @@ use Rattle.disk_seal.specs.Opening.{MayOpen}
 use Rattle.disk_seal.specs.Registered.{HoldsNames}
 use Rattle.ingest_workers.specs.Ingested.{told_entries}
 use Rattle.search_walk.specs.Journal.{OfJournal}
-use Rattle.archive_merge.specs.Behind.{SecondView}
+use Rattle.archive_merge.specs.Behind.{SecondView, needed_of}
 use Rattle.archive_merge.specs.Laws.{FilesAreRuns, SegmentsAreTheirs, view_in}
 use Rattle.archive_merge.specs.Left.{LeavesEntries}
 use Rattle.archive_merge.specs.Merging.{HasMergedAll, done_by}
@@ -30,13 +30,13 @@ use Rattle.archive_merge.specs.Named.{names_of}
 use Rattle.archive_merge.specs.declared.file.Merged.{Merged}
 use Rattle.archive_merge.specs.declared.refusal.MergeRefusal.{MergeRefusal as Why}
 use Rattle.command_answers.specs.Ingested.{LeavesJournal}
-use Rattle.command_answers.specs.Merging.{HasJournalCause, MayCome, Merge, TakesOver, texts_held}
+use Rattle.command_answers.specs.Merging.{HasJournalCause, IsNeeded, MayCome, Merge, TakesOver}
 use Rattle.merge_command.specs.Came.{lines_by}
 use Rattle.write_commands.proofs.LeavesLemmas.{of_told, opened_as}
 use Rattle.write_commands.proofs.PieceLemmas.{IsNewFrom}
-use Rattle.merge_command.proofs.CauseLemmas.{texts_same}
 use Rattle.merge_command.proofs.ContentLemmas.{types_behind, words_behind}
-use Rattle.merge_command.proofs.MergedLemmas.{over_opened}
+use Rattle.merge_command.proofs.MergedLemmas.{over_stood}
+use Rattle.merge_command.proofs.SegmentLemmas.{needed_theirs}
 use Rattle.merge_command.proofs.OverLemmas.{all_new, content, cuts, files as new_files, fronts, leaves_journal, legal_left, lines, whole}
 
 -- both hold of the journal
@@ -100,7 +100,7 @@ module _ (runs : FilesAreRuns) (theirs : SegmentsAreTheirs) {D : Type 0} {d : Di
       fronts = fronts runs s b opens view h before merged.naming merged.fresh stood ms few merged.named legal new (state_of j) some opened.0 opened.1 (done_by first (length ms) why) numbers merged.each;
       done = done_by first (length ms) why;
       cuts = cuts runs s b opens view h before merged.naming merged.fresh stood ms few merged.named legal new (state_of j) some opened.0 opened.1 (done_by first (length ms) why) numbers merged.each theirs;
-      texts = over_opened s.told b (λ g es other. (book : Which) → All (Contains (texts_held book other)) (book_texts book added)) opens (λ image g es other is shown. texts_of image g es other is shown);
+      texts = over_stood s.told b (λ g es other. (book : Which) → All (IsNeeded es other book) (book_texts book added)) opens texts_of;
       all = λ is. both_of s.told _ _ _ (λ g es other one two. (one, two))
           (whole runs s b opens view h before merged.naming merged.fresh stood ms few merged.named legal new (state_of j) some opened.0 opened.1 (done_by first (length ms) why) numbers merged.each (omega (arith, all_done (none is), merged.done (none is), length-map b.files (λ (f : FileEntry). f.name))) (merged.done (none is) ∙ length-map b.files (λ (f : FileEntry). f.name)))
           (comes h (length stood.legal.held.names) opened.0 number);
@@ -110,8 +110,11 @@ module _ (runs : FilesAreRuns) (theirs : SegmentsAreTheirs) {D : Type 0} {d : Di
         all_done : why ≡ None → done_by first (length ms) why ≡ length ms
         all_done is = ap (done_by first (length ms)) is
 
-        texts_of : (image : List ℕ) (g : Header) (es : List JournalEntry) (other : Held) → s.told ≡ Some image → IsArchiveOf b g es other → (book : Which) → All (Contains (texts_held book other)) (book_texts book added)
-        texts_of image g es other is shown Types = subst (All (Contains other.types)) (sym (types_behind merged.naming merged.fresh _ merged.named))
-            (subst (λ ts. All (Contains ts) (types_of merged.fresh)) (texts_same s b image g es other (view image is) shown Types) merged.types)
-        texts_of image g es other is shown Words = subst (All (Contains other.words)) (sym (words_behind merged.naming merged.fresh _ merged.named))
-            (subst (λ ts. All (Contains ts) (words_of merged.fresh)) (texts_same s b image g es other (view image is) shown Words) merged.words)
+        texts_of : (image : List ℕ) (g : Header) (es : List JournalEntry) (stood_there : StandsFor image g es) → s.told ≡ Some image → IsArchiveOf b g es stood_there.legal.held
+            → (book : Which) → All (IsNeeded es stood_there.legal.held book) (book_texts book added)
+        texts_of image g es stood_there is shown Types =
+            subst (All (IsNeeded es stood_there.legal.held Types)) (sym (types_behind merged.naming merged.fresh _ merged.named))
+            (All-weaker (needed_of s Types) (IsNeeded es stood_there.legal.held Types) (needed_theirs theirs s b image g es stood_there (view image is) shown Types) (types_of merged.fresh) merged.types)
+        texts_of image g es stood_there is shown Words =
+            subst (All (IsNeeded es stood_there.legal.held Words)) (sym (words_behind merged.naming merged.fresh _ merged.named))
+            (All-weaker (needed_of s Words) (IsNeeded es stood_there.legal.held Words) (needed_theirs theirs s b image g es stood_there (view image is) shown Words) (words_of merged.fresh) merged.words)
