@@ -61,9 +61,11 @@ module _ {D : Type 0} {d : DiskGhosts D} (s : SecondView) (h : Header) (before :
       let was = of_told (is_some (state_of j).disk.seen) told full in
       subst (λ ts. (count ≡ limit_of (header_limits h) book) × IsFullBy (λ t. Contains (book_texts book before) t ⊎ IsNeeded others other book t) (Contains ts) count) (texts book)
       (subst (λ es. (count ≡ limit_of (header_limits h) book) × IsFullBy (λ t. Contains (book_texts book es) t ⊎ IsNeeded others other book t) (Contains (old_texts s book)) count) entries
-      (subst (λ x. (count ≡ limit_of (header_limits x) book) × IsFullBy (λ t. Contains (book_texts book (told_entries (state_of j))) t ⊎ IsNeeded others other book t) (Contains (old_texts s book)) count) header
-      (was.0, full_wider (λ t. Contains (book_texts book (told_entries (state_of j))) t ⊎ needed_of s book t) (λ t. Contains (book_texts book (told_entries (state_of j))) t ⊎ IsNeeded others other book t) (Contains (old_texts s book)) count
-      (λ t. ⊎_elim (λ (a : Contains (book_texts book (told_entries (state_of j))) t). inl a) (λ (b : needed_of s book t). inr (needed book t b))) was.1)))
+      (subst (λ x. (count ≡ limit_of (header_limits x) book) × IsFullBy (λ t. Contains (book_texts book (told_entries (state_of j))) t ⊎ IsNeeded others other book t) (Contains (old_texts s book)) count) header (
+        was.0,
+        full_wider (λ t. Contains (book_texts book (told_entries (state_of j))) t ⊎ needed_of s book t) (λ t. Contains (book_texts book (told_entries (state_of j))) t ⊎ IsNeeded others other book t) (Contains (old_texts s book)) count
+            (λ t. ⊎_elim (λ (a : Contains (book_texts book (told_entries (state_of j))) t). inl a) (λ (b : needed_of s book t). inr (needed book t b))) was.1,
+      )))
 
   -- a segment that does not fit, which is this one of the second archive's journal
   pub lacks_room : (bytes : List ℕ) → s.told ≡ Some bytes → s.version ≡ h.version → (next : SegmentEntry) (first file done number end need : ℕ) → file ≡ number → h.length_limit < end + need

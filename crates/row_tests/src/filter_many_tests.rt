@@ -7,6 +7,7 @@ use subquery_filter::{Filter, Verdict};
 
 /// How many log types there are, and how many slots of each kind each of them has.
 const TYPES: u32 = 3_600;
+
 const SLOTS: u32 = 320;
 
 /// The word of `10.00`.
