@@ -16,8 +16,8 @@ const DECIMAL: u64 = 0x3E831;
 /// The text of a log type, its number in letters.
 fn type_text(alloc: Global, number: u32) -> Result<Vec<u8>, AllocError> {
     let mut text = Vec::from_slice(alloc, b"many ")?;
-    for place in 0..4 {
-        text.push(b'a' + (number >> (4 * place) & 15) as u8)?;
+    for part in [number, number / 16, number / 256] {
+        text.push(b'a' + (part & 15) as u8)?;
     }
     for _ in 0..SLOTS {
         text.extend_from_slice(b" \x11 \x12 \x13")?;
