@@ -6,6 +6,7 @@ mod VerdictLemmas
 mod TokenLemmas
 mod StoredLemmas
 mod FilterLemmas
+mod HoldLemmas
 mod RejectLemmas
 mod NeedLemmas
 mod NumberLemmas

@@ -1,9 +1,10 @@
 //! Runs of constant bytes in the text of a log type.
-ghost use Rattle.std.specs.Prelude.{◌≡◌, ◌≢◌, ◌↔◌, ◌++◌, ℕ, List, IfNone, IfSome, IsTrue};
-ghost use Rattle.logtype_text.specs.TypeText.{text_of_symbol};
+ghost use Rattle.std.specs.Prelude.{◌≡◌, ◌≢◌, ◌↔◌, ◌++◌, ℕ, List, All, false, IfNone, IfSome, IsFalse, IsTrue};
+ghost use Rattle.logtype_text.specs.TypeText.{is_escaped, text_of_symbol};
 ghost use Rattle.barren_segments.specs.Runs.{BeginsRun, HoldsRun, IsRunEnd, ends_run};
 
-use logtype_text::{Symbol, first_symbol};
+use logtype_text::{Symbol, first_symbol, needs_escape};
+use memchr::memmem::find;
 use token_rules::is_delim;
 
 /// Whether no run goes on over a symbol.
@@ -63,8 +64,34 @@ fn begins_here(may_begin: bool, text: &[u8], word: &[u8]) -> bool
     may_begin && begins_run(text, word)
 }
 
-/// Whether the word, which is a token, is a run of a text. Takes no memory.
-pub(crate) fn holds_run(text: &[u8], word: &[u8]) -> bool
+/// Whether no byte of a word needs a `\` before it in the text of a log type.
+fn is_stored_plain(word: &[u8]) -> bool
+    ensures { IsTrue result → All (λ b. is_escaped b ≡ false) word.now }
+{
+    for byte in word {
+        if needs_escape(*byte) {
+            return false;
+        }
+    }
+    true
+}
+
+/// Whether the bytes of a word stand in a text, or some of them need a `\` there. Where not, the word
+/// is no run of the text.
+fn may_hold(text: &[u8], word: &[u8]) -> bool
+    ensures { IsFalse result → ¬ HoldsRun text.now word.now }
+{
+    if !is_stored_plain(word) {
+        return true;
+    }
+    match find(text, word) {
+        Some(_at) => true,
+        None => false,
+    }
+}
+
+/// Whether the word, which is a token, is a run of a text, symbol by symbol.
+fn is_run(text: &[u8], word: &[u8]) -> bool
     ensures { IsTrue result ↔ HoldsRun text.now word.now }
 {
     let mut rest = text;
@@ -79,4 +106,13 @@ pub(crate) fn holds_run(text: &[u8], word: &[u8]) -> bool
         may_begin = ends_run(symbol);
         rest = after;
     }
+}
+
+/// Whether the word, which is a token, is a run of a text. Takes no memory.
+///
+/// Most texts do not have its bytes, and are not read symbol by symbol.
+pub(crate) fn holds_run(text: &[u8], word: &[u8]) -> bool
+    ensures { IsTrue result ↔ HoldsRun text.now word.now }
+{
+    may_hold(text, word) && is_run(text, word)
 }

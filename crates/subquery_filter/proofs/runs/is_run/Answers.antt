@@ -1,7 +1,7 @@
 use Rattle.std.proofs.Common.{refl}
 use Rattle.subquery_filter.proofs.RuleLemmas.{tells_not}
 use Rattle.subquery_filter.proofs.RunLemmas.{holds_none, holds_then, run_here}
-use Rattle.subquery_filter.proofs.runs.holds_run.Goals as goal
+use Rattle.subquery_filter.proofs.runs.is_run.Goals as goal
 
 pub returns-then-begins_here : goal.returns-then-begins_here
 returns-then-begins_here c =
