@@ -169,7 +169,7 @@ impl PagesAhead {
 /// next pages of a segment, decides their rows, and looks whether their words are held.
 pub(crate) fn match_beside<R: Threads + Sync, D: Disk>(
     rt: &R,
-    workers: usize,
+    threads: usize,
     printer: &Printer<'_>,
     slots: &mut [PageSlot],
     context: &Context<'_, D>,
@@ -177,7 +177,7 @@ pub(crate) fn match_beside<R: Threads + Sync, D: Disk>(
     disk: &mut D,
     ahead: &mut PagesAhead,
 ) -> Result<(), SearchRefusal>
-    requires workers { 0 < workers }
+    requires threads { 0 < threads }
     requires types { AreCut printer.now.layouts.now printer.now.held.now.types }
 
     // the pages that were searched
@@ -196,7 +196,7 @@ pub(crate) fn match_beside<R: Threads + Sync, D: Disk>(
         rt,
         &mut ||
             requires shared { IsSync R.row }
-            requires workers { 0 < workers }
+            requires threads { 0 < threads }
             requires types { AreCut printer.now.layouts.now printer.now.held.now.types }
             ensures len { length slots.exit.now ≡ length slots.entry.now }
             ensures pages { (k : ℕ) (d : Slotted) → k < length slots.entry.now
@@ -204,7 +204,7 @@ pub(crate) fn match_beside<R: Threads + Sync, D: Disk>(
                 ≡ (slice_index_or slots.entry.now k d).page }
             ensures worked { All
                 (IsWorkedBy printer.entry.now.query.now printer.entry.now.held.now) slots.exit.now }
-        { match_pages(rt, workers, printer, slots) },
+        { match_pages(rt, threads, printer, slots) },
         &mut || -> Result<(), SearchRefusal>
             ensures { ReadAhead context.entry.now.names context.entry.now.query
                 printer.entry.now.held.now

@@ -28,7 +28,7 @@ use std::thread::Threads;
 use step_count::Steps;
 use word_places::HeldWords;
 
-/// How many pages of a round each worker has. As many more are read meanwhile.
+/// How many pages of a round each thread has that searches. As many more are read meanwhile.
 const PAGES: usize = 2;
 
 /// What is at hand between the reads of pages: the lines for the output, the counts, and the pages that
@@ -150,9 +150,17 @@ impl PageBatch {
         }
     }
 
+    /// How many threads search the pages of a round beside the one that reads the next pages, so that
+    /// there are as many in all as workers.
+    fn beside(&self) -> usize
+        ensures { 0 < result }
+    {
+        self.workers.saturating_sub(1).max(1)
+    }
+
     /// Whether as many pages wait as are searched together. One worker has none wait.
     pub(crate) fn is_round(&self) -> bool {
-        self.workers > 1 && self.waiting.len() / PAGES >= self.workers
+        self.workers > 1 && self.waiting.len() / PAGES >= self.beside()
     }
 
     /// Whether what waits is to be searched at once. One worker takes each page as it comes, and so is a
@@ -244,10 +252,11 @@ impl PageBatch {
             (K.faults out.old) (K.faults out.new) result }
     {
         let printer = Printer::of(over.context, held);
+        let threads = self.beside();
         let slots = self.waiting.as_mut_slice();
         match_beside(
             over.rt,
-            self.workers,
+            threads,
             &printer,
             slots,
             over.context,

@@ -310,18 +310,18 @@ fn match_chunk(printer: &Printer<'_>, slots: &mut [PageSlot])
 /// last.
 pub(crate) fn match_pages<R: Threads + Sync>(
     rt: &R,
-    workers: usize,
+    threads: usize,
     printer: &Printer<'_>,
     slots: &mut [PageSlot],
 )
-    requires workers { 0 < workers }
+    requires threads { 0 < threads }
     requires types { AreCut printer.now.layouts.now printer.now.held.now.types }
     ensures len { length slots.new ≡ length slots.old }
     ensures pages { (k : ℕ) (d : Slotted) → k < length slots.old
         → (slice_index_or slots.new k d).page ≡ (slice_index_or slots.old k d).page }
     ensures worked { All (IsWorkedBy printer.now.query.now printer.now.held.now) slots.new }
 {
-    let size = slots.len().div_ceil(workers).max(1);
+    let size = slots.len().div_ceil(threads).max(1);
     // One chunk needs no other thread, and no look at how many processors there are.
     if slots.len() <= size {
         match_chunk(printer, slots);

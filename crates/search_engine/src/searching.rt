@@ -98,9 +98,9 @@ fn search_opened<R: Threads + Sync, D: Disk, K: Sink, L: Ledger, M: Ledger>(
 /// Words are read where they are wanted: all of them once, where some log type leaves the decision to
 /// its words or a word that is needed is a variable; and then with its record each word of a message that is written.
 ///
-/// As many pages as two for each of the `workers` are searched in as many threads, while one thread
-/// reads as many of the next ones; it prints too. Pages of which little is left to search are searched
-/// by this one. With any number of workers the same is printed and counted.
+/// The `workers` are so many threads in all. The calling one reads pages and prints; the others search,
+/// each two pages at a time, while it reads as many of the next ones. Pages of which little is left to
+/// search are searched by the calling thread. With any number of workers the same is printed and counted.
 ///
 /// Of a barren segment no column is read: its head tells that no message of it in the range matches. Of
 /// the others `opened` counts each, and `expanded` counts the messages in the range that the widened
