@@ -33,7 +33,7 @@ use Rattle.subquery_filter.specs.declared.token.Token.{Token}
 use Rattle.subquery_filter.specs.declared.verdicts.Verdict.{Verdict}
 use Rattle.subquery_filter.specs.declared.verdicts.Verdict.TheVariants.{Rejected, Certain, Tried}
 use Rattle.subquery_filter.specs.Filter.{AreKindBits, AreSlots, AreSmall, AreSums, AreTests, AsksTypes, Covers, Gives, Has, HasNoMatch, IsAsked, IsFilter, IsListed, IsRight, IsRowVerdict, IsSlot, IsTest, LacksAll, LacksRuns, LacksText, RunMarks, StampMarks, MarksOpen, MarksVariable, marks_at, others_of, sum_at}
-use Rattle.subquery_filter.specs.StepsFilter.{AreTokens, HasAll, HasEach, IsShut, Lacks, LacksStamp, LacksTokens, RunsBring, StampsBring, Stays}
+use Rattle.subquery_filter.specs.StepsFilter.{AreTokens, HasAll, HasEach, IsShut, Lacks, RunsBring, StampsBring, Stays}
 use Rattle.subquery_filter.specs.StepsLetters.{kinds_in}
 use Rattle.subquery_filter.specs.Tokens.{RowsBring, RowsBringChunks, StandsInType}
 use Rattle.subquery_filter.specs.Verdicts.{CertainAlwaysMatches, IsCertain, IsRejected, RejectedNeverMatches}
@@ -268,7 +268,7 @@ lacks_bits law ps types words f is row test bits at tried has stamp variables la
       | inr (inr v) ↦ variables canonical.means.parts typed v.place v.kind v.word v.variable v.slot v.at v.has j d lt v.finds
     ]))
 
-row_lacks : RowsBring → (p : List Item) (types words : List (List ℕ)) (f : Filter) → IsFilter (wide_pieces p) types words f → (row : Row) (test : TypeTest)
+pub row_lacks : RowsBring → (p : List Item) (types words : List (List ℕ)) (f : Filter) → IsFilter (wide_pieces p) types words f → (row : Row) (test : TypeTest)
     → slice_get f.tests.items row.log_type ≡ Some test → test.verdict ≡ Tried → Lacks f test row → IsRowVerdict (wide_pieces p) types words row Rejected
 row_lacks law p types words f is row test at tried h =
     lacks_bits law (wide_pieces p) types words f is row test h.bits at tried h.has (h.stamp is.asks.stamps)
@@ -357,7 +357,7 @@ row_verdict rejected certain bring p searched types words f is row test at = ver
 -- ---- what runs tell of a row
 
 -- a row of a log type that leaves a run to stamps, where its own has no more runs than these
-lacks_runs : RowsBringChunks → (ps : List Piece) (types words : List (List ℕ)) (f : Filter) → AsksTypes ps types f → (row : Row) (bits : ℕ)
+pub lacks_runs : RowsBringChunks → (ps : List Piece) (types words : List (List ℕ)) (f : Filter) → AsksTypes ps types f → (row : Row) (bits : ℕ)
     → ((s : List ℕ) → HasStampText row.pattern row.moment s → RunMarks f.runs.items s bits) → LacksRuns f bits row.log_type
     → (version : ℕ) (message : List ℕ) → IsCanonical version row types words message → ¬ Match (flat ps) message
 lacks_runs law ps types words f asks row bits marks lacks version message canonical matches =
@@ -440,23 +440,3 @@ told_certain certain p types words f asks row v there is_certain =
       | inl same ↦ certain_row certain p types words f asks row test at (sym same ∙ is_certain)
       | inr (never, how) ↦ absurd (let e : Rejected ≡ Certain = sym never ∙ is_certain in cc)
     ]
-
--- a row that lacks tokens, whose log type leaves it open
-row_lacks_tokens : RowsBring → (p : List Item) (types words : List (List ℕ)) (f : Filter) → IsFilter (wide_pieces p) types words f → (row : Row) (v : Verdict)
-    → slice_get f.verdicts.items row.log_type ≡ Some v → v ≡ Tried → LacksTokens f row → IsRowVerdict (wide_pieces p) types words row Rejected
-row_lacks_tokens law p types words f is row v there tried (test, at, lacks) =
-    let (other, here, how) = is.asks.told row.log_type v there in
-    let same : other ≡ test = same_tests (slice_get f.tests.items row.log_type) other test here at in
-    elim how [
-      | inl told ↦ row_lacks law p types words f is row test at (ap (λ (t : TypeTest). t.verdict) (sym same) ∙ sym told ∙ tried) lacks
-      | inr (never, why) ↦ absurd (let e : Rejected ≡ Tried = sym never ∙ tried in cc)
-    ]
-  where
-    same_tests : (o : Option TypeTest) (a b : TypeTest) → o ≡ Some a → o ≡ Some b → a ≡ b
-    same_tests o a b one two = cc (one, two)
-
--- and one that lacks runs or tokens
-pub row_lacks_some : RowsBring → (p : List Item) (types words : List (List ℕ)) (f : Filter) → IsFilter (wide_pieces p) types words f → (row : Row) (v : Verdict)
-    → slice_get f.verdicts.items row.log_type ≡ Some v → v ≡ Tried → LacksStamp f row ⊎ LacksTokens f row → IsRowVerdict (wide_pieces p) types words row Rejected
-row_lacks_some law p types words f is row v there tried (inl (bits, marks, lacks)) = lacks_runs law.2 (wide_pieces p) types words f is.asks row bits (marks is.asks.run_stamps) lacks
-row_lacks_some law p types words f is row v there tried (inr tokens) = row_lacks_tokens law p types words f is row v there tried tokens

@@ -1,6 +1,6 @@
 -- Rows of which no variable counts.
 use Rattle.std.proofs.Common.{◌≡◌, ℕ, ◌+◌, ◌-◌, ◌<◌, ◌≤◌, true, List, [], ◌∷◌, ◌++◌, length, get_or, drop, sym, ◌∙◌, ap, subst, arith, inl, inr}
-use Rattle.std.specs.Prelude.{All, None, Some, bit_or, slice_get, slice_index_or, slice_range}
+use Rattle.std.specs.Prelude.{◌⊎◌, All, None, Option, Some, bit_or, slice_get, slice_index_or, slice_range}
 use Rattle.std.specs.Int.{cast_signed, w64}
 use Rattle.std.proofs.lemmas.Bool.{cases_lt}
 use Rattle.std.proofs.lemmas.List.{get_or-drop, get_or-take, get_or_default, length-drop, length-take}
@@ -24,14 +24,14 @@ use Rattle.subquery_filter.specs.declared.slots.TypeTest.{TypeTest}
 use Rattle.subquery_filter.specs.declared.token.Token.{Token}
 use Rattle.subquery_filter.specs.declared.verdicts.Verdict.{Verdict}
 use Rattle.subquery_filter.specs.declared.verdicts.Verdict.TheVariants.{Rejected, Tried}
-use Rattle.subquery_filter.specs.Filter.{AreNeeds, AreOpenBits, CountsNot, Has, IsFilter, IsNeed, IsNoCode, IsRowVerdict, LacksBare, MarksOpen, MarksVariable, NoneCounts, marks_at}
+use Rattle.subquery_filter.specs.Filter.{AreNeeds, AreOpenBits, CountsNot, Has, IsFilter, IsNeed, IsNoCode, IsOpenWord, IsRowVerdict, LacksBare, MarksOpen, MarksVariable, NoneCounts, marks_at}
 use Rattle.subquery_filter.specs.NumberText.{is_number_part}
-use Rattle.subquery_filter.specs.StepsFilter.{HasEach}
+use Rattle.subquery_filter.specs.StepsFilter.{HasEach, LacksHits, LacksStamp, LacksTokens}
 use Rattle.subquery_filter.specs.Tokens.{RowsBring}
 use Rattle.subquery_filter.specs.Verdicts.{CertainAlwaysMatches, RejectedNeverMatches}
 use Rattle.subquery_filter.proofs.BitLemmas.{has_left, has_none, has_right, has_self, has_through, has_zero}
 use Rattle.subquery_filter.proofs.ClosedLemmas.{are_coded, exact_marks}
-use Rattle.subquery_filter.proofs.FilterLemmas.{lacks_bits, push_cases, stamp_may, told_verdict}
+use Rattle.subquery_filter.proofs.FilterLemmas.{lacks_bits, lacks_runs, push_cases, row_lacks, stamp_may, told_verdict}
 use Rattle.subquery_filter.proofs.NumberLemmas.{any_part, decimal_part, stands_in, whole_coded, whole_part}
 
 -- ---- what is needed, by the numbers of the log types
@@ -111,24 +111,53 @@ open_marks tokens text bits openly part j d lt free m =
     let k : Token = slice_index_or tokens j d in openly j d lt (free, part k.text (stands_in k text m))
 
 -- a variable with such a word brings no more than open tokens
-bare_variable : OneWord → (ps : List Piece) (types words : List (List ℕ)) (f : Filter) → IsFilter ps types words f → (bits : ℕ) → AreOpenBits f.tokens.items bits → (kind : Kind) (word : ℕ) (variable : List ℕ) → CountsNot f word → HasWord words kind variable word
+bare_variable : OneWord → (ps : List Piece) (types words : List (List ℕ)) (f : Filter) → IsFilter ps types words f → (bits : ℕ) → AreOpenBits f.tokens.items bits → (kind : Kind) (word : ℕ) (variable : List ℕ) → Has bits (marks_at f.marks word) → All (λ k. IsNoCode k word) f.tokens.items → HasWord words kind variable word
     → MarksVariable f.tokens.items variable bits
-bare_variable one ps types words f is bits openly Whole word variable none (n, coded, packs) =
-    exact_marks one f.tokens.items variable (WholeWord (cast_signed w64 word)) bits (whole_coded variable n word coded packs) (are_coded ps f.tokens.items is.asks.are) (λ j d lt same. absurd ((none.code j d lt).0 same))
+bare_variable one ps types words f is bits openly Whole word variable marks codes (n, coded, packs) =
+    exact_marks one f.tokens.items variable (WholeWord (cast_signed w64 word)) bits (whole_coded variable n word coded packs) (are_coded ps f.tokens.items is.asks.are) (λ j d lt same. absurd ((codes j d lt).0 same))
     (open_marks f.tokens.items variable bits openly (λ t m. any_part t (whole_part t variable n coded m)))
-bare_variable one ps types words f is bits openly Decimal word variable none coded =
-    exact_marks one f.tokens.items variable (DecimalWord word) bits coded (are_coded ps f.tokens.items is.asks.are) (λ j d lt same. absurd ((none.code j d lt).1 same))
+bare_variable one ps types words f is bits openly Decimal word variable marks codes coded =
+    exact_marks one f.tokens.items variable (DecimalWord word) bits coded (are_coded ps f.tokens.items is.asks.are) (λ j d lt same. absurd ((codes j d lt).1 same))
     (open_marks f.tokens.items variable bits openly (λ t m. decimal_part t variable word coded m))
-bare_variable one ps types words f is bits openly Word word variable none has = λ j d lt finds.
-    has_through bits 0 (slice_index_or f.tokens.items j d).bit (has_none bits)
-    (subst (λ (n : ℕ). Has n (slice_index_or f.tokens.items j d).bit) none.marks (is.marks word variable has.1 j d lt finds.0))
+bare_variable one ps types words f is bits openly Word word variable marks codes has = λ j d lt finds.
+    has_through bits (marks_at f.marks word) (slice_index_or f.tokens.items j d).bit marks (is.marks word variable has.1 j d lt finds.0)
 
 -- a row of which no word counts is rejected, where its log type needs one that does
 bare_row : OneWord → RowsBring → (p : List Item) (types words : List (List ℕ)) (f : Filter) → IsFilter (wide_pieces p) types words f → (row : Row) (test : TypeTest) → slice_get f.tests.items row.log_type ≡ Some test → test.verdict ≡ Tried
     → LacksBare f.tokens.items test f.stamped f.wanted → ((place word : ℕ) → slice_get row.words place ≡ Some word → CountsNot f word) → IsRowVerdict (wide_pieces p) types words row Rejected
 bare_row one law p types words f is row test at tried h none =
     lacks_bits law (wide_pieces p) types words f is row test h.bits at tried h.has (stamp_may f types words (wide_pieces p) is row h.bits h.stamps)
-    (λ parts typed place kind word variable slot there has. bare_variable one (wide_pieces p) types words f is h.bits h.numbers kind word variable (none place word there) has) h.lacks
+    (λ parts typed place kind word variable slot there has.
+    bare_variable one (wide_pieces p) types words f is h.bits h.numbers kind word variable (unmarked (none place word there)) (none place word there).code has)
+    h.lacks
+  where
+    unmarked : {word : ℕ} → CountsNot f word → Has h.bits (marks_at f.marks word)
+    unmarked {word = word} c = subst (Has h.bits) (sym c.marks) (has_none h.bits)
+
+-- words without a mark beyond those of open tokens
+pub open_words : (f : Filter) (words : List ℕ) (bits : ℕ) → HasEach f.marks words bits → Has f.numeric bits → All (λ k. All (IsNoCode k) words) f.tokens.items → All (IsOpenWord f) words
+open_words f words bits each few codes j d lt =
+    let word : ℕ = slice_index_or words j d in
+    record {
+      marks = has_through f.numeric bits (marks_at f.marks word) few (each word (j, lt, get_or_default words j word d lt));
+      code = λ i e less. codes i e less j d lt;
+    }
+
+-- a row of such words is rejected, where its log type, numbers and its stamp do not suffice
+pub row_open : OneWord → RowsBring → (p : List Item) (types words : List (List ℕ)) (f : Filter) → IsFilter (wide_pieces p) types words f → (row : Row) (test : TypeTest) → slice_get f.tests.items row.log_type ≡ Some test → test.verdict ≡ Tried
+    → LacksHits f test row → IsRowVerdict (wide_pieces p) types words row Rejected
+row_open one law p types words f is row test at tried h =
+    lacks_bits law (wide_pieces p) types words f is row test h.bits at tried h.has (h.stamp is.asks.stamps)
+    (λ parts typed place kind word variable slot there has.
+    let own : IsOpenWord f word = here place word there in
+    bare_variable one (wide_pieces p) types words f is h.bits openly kind word variable (has_through h.bits f.numeric (marks_at f.marks word) h.numeric own.marks) own.code has)
+    h.lacks
+  where
+    openly : AreOpenBits f.tokens.items h.bits
+    openly j d lt free = has_through h.bits f.numeric (slice_index_or f.tokens.items j d).bit h.numeric (is.asks.numeric j d lt free)
+
+    here : (place word : ℕ) → slice_get row.words place ≡ Some word → IsOpenWord f word
+    here place word there = subst (IsOpenWord f) (get_or_from_slice_get row.words place word 0 there) (h.words place 0 (slice_get_within row.words place word there))
 
 pub needs_hit : OneWord → RowsBring → (f : Filter) (words : List ℕ) (start end hit t : ℕ) (need : Need) → need ≡ Hit → ((verdicts : List Verdict) → AreNeeds f verdicts f.needs.items → IsNeed f.tokens.items f.tests.items f.stamped f.wanted verdicts t need) → end ≤ hit
     → NoneCounts f words start hit → (row : Row) → row.log_type ≡ t → row.words ≡ slice_range words start end → (p : List Item) (names texts : List (List ℕ)) → IsFilter (wide_pieces p) names texts f → IsRowVerdict (wide_pieces p) names texts row Rejected
@@ -141,3 +170,30 @@ pub needs_never : RejectedNeverMatches → CertainAlwaysMatches → RowsBring �
 needs_never rejected certain law f t need same told row typed p names texts searched is =
     let there : slice_get f.verdicts.items t ≡ Some Rejected = subst (IsNeed f.tokens.items f.tests.items f.stamped f.wanted f.verdicts.items t) same (told f.verdicts.items is.asks.needs) in
     told_verdict rejected certain law p searched names texts f is row Rejected (ap (slice_get f.verdicts.items) typed ∙ there)
+
+-- ---- what is lacking
+
+-- a row that lacks tokens, whose log type leaves it open
+row_lacks_tokens : OneWord → RowsBring → (p : List Item) (types words : List (List ℕ)) (f : Filter) → IsFilter (wide_pieces p) types words f → (row : Row) (v : Verdict)
+    → slice_get f.verdicts.items row.log_type ≡ Some v → v ≡ Tried → LacksTokens f row → IsRowVerdict (wide_pieces p) types words row Rejected
+row_lacks_tokens one law p types words f is row v there tried (test, at, how) =
+    let (other, here, told) = is.asks.told row.log_type v there in
+    let same : other ≡ test = same_tests (slice_get f.tests.items row.log_type) other test here at in
+    elim told [
+      | inl is_told ↦
+          let open_type : test.verdict ≡ Tried = ap (λ (t : TypeTest). t.verdict) (sym same) ∙ sym is_told ∙ tried in
+          elim how [
+            | inl hits ↦ row_open one law p types words f is row test at open_type hits
+            | inr lacks ↦ row_lacks law p types words f is row test at open_type lacks
+          ]
+      | inr (never, why) ↦ absurd (let e : Rejected ≡ Tried = sym never ∙ tried in cc)
+    ]
+  where
+    same_tests : (o : Option TypeTest) (a b : TypeTest) → o ≡ Some a → o ≡ Some b → a ≡ b
+    same_tests o a b first second = cc (first, second)
+
+-- and one that lacks runs or tokens
+pub row_lacks_some : OneWord → RowsBring → (p : List Item) (types words : List (List ℕ)) (f : Filter) → IsFilter (wide_pieces p) types words f → (row : Row) (v : Verdict)
+    → slice_get f.verdicts.items row.log_type ≡ Some v → v ≡ Tried → LacksStamp f row ⊎ LacksTokens f row → IsRowVerdict (wide_pieces p) types words row Rejected
+row_lacks_some one law p types words f is row v there tried (inl (bits, marks, lacks)) = lacks_runs law.2 (wide_pieces p) types words f is.asks row bits (marks is.asks.run_stamps) lacks
+row_lacks_some one law p types words f is row v there tried (inr tokens) = row_lacks_tokens one law p types words f is row v there tried tokens

@@ -308,13 +308,14 @@ lacks_by f test row bits all has brings more stamp lacks = record {
 pub stamp_more : (tokens : List Token) (s : List ℕ) (bits more : ℕ) → StampMarks tokens s more → StampMarks tokens s (bit_or bits more)
 stamp_more tokens s bits more marks j d lt m = has_through (bit_or bits more) more _ (has_right bits more) (marks j d lt m)
 
-pub stamp_brings : (tokens looked : List Token) (may bits brought pattern : ℕ) (moment : ℤ) (stamps : List ℕ) → looked ≡ tokens → may ≡ slice_index_or stamps pattern 0
+pub stamp_brings : (tokens looked : List Token) (may bits brought pattern : ℕ) (moment : ℤ) (stamps : List ℕ) → looked ≡ tokens
+    → (AreStamps tokens stamps → (s : List ℕ) → HasStampText pattern moment s → StampMarks tokens s may)
     → ((s : List ℕ) → (HasStampText pattern moment s → StampMarks looked s may) → HasStampText pattern moment s → StampMarks looked s brought)
     → AreStamps tokens stamps → (s : List ℕ) → HasStampText pattern moment s → StampMarks tokens s (bit_or bits brought)
-stamp_brings tokens looked may bits brought pattern moment stamps same is tells are s stamped =
+stamp_brings tokens looked may bits brought pattern moment stamps same marks tells are s stamped =
     stamp_more tokens s bits brought
     (subst (λ (l : List Token). StampMarks l s brought) same
-    (tells s (λ h. subst (λ (n : ℕ). StampMarks looked s n) (sym is) (subst (λ (l : List Token). StampMarks l s (slice_index_or stamps pattern 0)) (sym same) (are pattern moment s h))) stamped))
+    (tells s (λ h. subst (λ (l : List Token). StampMarks l s may) (sym same) (marks are s h)) stamped))
 
 -- ---- what a row lacks without its numbers and its stamp
 
@@ -337,8 +338,9 @@ word_kind Whole = inr (λ e. cc (e))
 word_kind Decimal = inr (λ e. cc (e))
 
 pub lacks_numbers : (f : Filter) (test : TypeTest) (row : Row) (may bits : ℕ) → Has bits (bit_or (bit_or test.has f.numbers) may)
-    → BringsWords f test row.words bits → may ≡ slice_index_or f.stamps.items row.pattern 0 → ¬ Has bits f.wanted → Lacks f test row
-lacks_numbers f test row may bits more dictionary may_is lacks =
+    → BringsWords f test row.words bits → (AreStamps f.tokens.items f.stamps.items → (s : List ℕ) → HasStampText row.pattern row.moment s → StampMarks f.tokens.items s may)
+    → ¬ Has bits f.wanted → Lacks f test row
+lacks_numbers f test row may bits more dictionary marks lacks =
     let others : ℕ = bit_or test.has f.numbers in
     let own : Has bits others = has_through bits (bit_or others may) others more (has_left others may others (has_self others)) in
     let known : Has bits test.has = has_through bits others test.has own (has_left test.has f.numbers test.has (has_self test.has)) in
@@ -354,7 +356,7 @@ lacks_numbers f test row may bits more dictionary may_is lacks =
         unlisted = dictionary.unlisted;
       };
       stamp = λ stamps s stamped j d lt lies.
-          has_through bits may (slice_index_or f.tokens.items j d).bit by_stamp (subst (λ (n : ℕ). StampMarks f.tokens.items s n) (sym may_is) (stamps row.pattern row.moment s stamped) j d lt lies);
+          has_through bits may (slice_index_or f.tokens.items j d).bit by_stamp (marks stamps s stamped j d lt lies);
       lacks = lacks;
     }
   where

@@ -280,6 +280,11 @@ abbrev pub NoneCounts : Filter → List ℕ → ℕ → ℕ → Type 0
 NoneCounts f words from to =
     (k : ℕ) → from ≤ k → k < to → k < length words → CountsNot f (slice_index_or words k 0)
 
+-- the word has no mark beyond those of tokens that numbers may bring, and no closed variable is stored as it is
+pub record IsOpenWord (f : Filter) (word : ℕ) : Type 0 where
+  pub marks : Has f.numeric (marks_at f.marks word)
+  pub code : All (λ k. IsNoCode k word) f.tokens.items
+
 -- ---- the filter
 
 -- a token of the pieces, with the text that stands around it there, and closed where it is kept as a closed variable
@@ -302,6 +307,7 @@ pub record AsksTypes (ps : List Piece) (types : List (List ℕ)) (f : Filter) : 
   pub cut : IsCut ps
   pub are : All (IsAsked ps) f.tokens.items
   pub wanted : IsWanted f.tokens.items f.wanted
+  pub numeric : AreOpenBits f.tokens.items f.numeric
   pub tests : AreTests ps f.tokens.items (others_of f) types f.slots.items f.tests.items
   pub needles : AreTexts f.tokens.items f.needles.items
   pub told : AreTold f f.verdicts.items

@@ -20,7 +20,7 @@ use Rattle.subquery_filter.specs.declared.slots.Sums.{Sums}
 use Rattle.subquery_filter.specs.declared.slots.TypeTest.{TypeTest}
 use Rattle.subquery_filter.specs.declared.token.Token.{Token}
 use Rattle.subquery_filter.specs.declared.verdicts.Verdict.TheVariants.{Rejected, Tried}
-use Rattle.subquery_filter.specs.Filter.{AreCoded, AreKindBits, AreMarks, AreNumberBits, AreRunStamps, AreStamps, Finds, Has, IsAsked, IsSlot, IsWithin, LacksAll, LacksRuns, RunMarks, StampMarks, TellsSmall, marks_at, sum_at}
+use Rattle.subquery_filter.specs.Filter.{AreCoded, AreKindBits, AreMarks, AreNumberBits, AreRunStamps, AreStamps, Finds, Has, IsAsked, IsOpenWord, IsSlot, IsWithin, LacksAll, LacksRuns, RunMarks, StampMarks, TellsSmall, marks_at, sum_at}
 use Rattle.subquery_filter.specs.StepsLetters.{kinds_in}
 use Rattle.subquery_filter.specs.Tokens.{IsClosed}
 
@@ -116,9 +116,22 @@ pub record Lacks (f : Filter) (test : TypeTest) (row : Row) : Type 0 where
       → StampMarks f.tokens.items s bits
   pub lacks : ¬ Has bits f.wanted
 
+-- the constant bytes of its log type, numbers and its stamp bring no more than these bits, which are not all that are
+-- wanted, and no word of it brings another
+pub record LacksHits (f : Filter) (test : TypeTest) (row : Row) : Type 0 where
+  pub bits : ℕ
+  pub has : Has bits test.has
+  pub numeric : Has bits f.numeric
+  pub words : All (IsOpenWord f) row.words
+  pub stamp :
+      AreStamps f.tokens.items f.stamps.items → (s : List ℕ) → HasStampText row.pattern row.moment s
+      → StampMarks f.tokens.items s bits
+  pub lacks : ¬ Has bits f.wanted
+
 -- so it is by what is known of its log type
 abbrev pub LacksTokens : Filter → Row → Type 0
-LacksTokens f row = (test : TypeTest) × (slice_get f.tests.items row.log_type ≡ Some test) × Lacks f test row
+LacksTokens f row =
+    (test : TypeTest) × (slice_get f.tests.items row.log_type ≡ Some test) × (LacksHits f test row ⊎ Lacks f test row)
 
 -- a run that its log type leaves to stamps stands in no stamp of the row
 abbrev pub LacksStamp : Filter → Row → Type 0

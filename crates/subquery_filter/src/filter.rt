@@ -13,20 +13,20 @@ ghost use Rattle.subquery_filter.specs.declared.slots.Slot.{Slot};
 ghost use Rattle.subquery_filter.specs.Filter.{AreCoded, AreMarks, AreStamps, AreTold, AsksTypes, Has, HasNoMatch, IsFilter, IsRowVerdict, IsTold, LacksAll, MarksVariable, StampMarks, TellsSmall, others_of};
 ghost use Rattle.subquery_filter.specs.declared.verdicts.Verdict.TheVariants.{Certain};
 ghost use Rattle.subquery_filter.specs.Found.{HaveAll};
-ghost use Rattle.subquery_filter.specs.Page.{IsPage};
+ghost use Rattle.subquery_filter.specs.Page.{AreStampBits, IsPage};
 ghost use Rattle.subquery_filter.specs.StepsFilter.{Brings, BringsWords, GivesAny, HasEach, IsShut, Lacks, LacksStamp, LacksTokens, RunsBring, SlotGives, SlotIs, StampsBring};
 
 use crate::alone::{run_bits, runs_of};
 use crate::bits::{any_of, has, mark_at};
 use crate::laws::{rows_bring_chunks, rows_bring_runs, verdicts_hold};
 use crate::marks::WordMarks;
-use crate::needing::Need;
+use crate::needing::{Need, open_bits};
 use crate::needles::{lists_with, texts_of};
 use crate::numbers::{decimal_bits, kind_bits, whole_bits};
 use crate::rare::longest_rare;
 use crate::run::Run;
 use crate::run_stamps::{mark_runs, runs_within, stamp_runs};
-use crate::shared::PageTests;
+use crate::shared::{PageTests, StampBits};
 use crate::slots::{Question, Slot, TypeTest, test_types};
 use crate::small::{SmallNumbers, small_needed};
 use crate::stamps::{bits_within, mark_stamps, stamp_bits};
@@ -41,7 +41,7 @@ use query_plan::Plan;
 use row_codec::Names;
 use segment_format::Head;
 use std::alloc::{AllocError, Global};
-use time_patterns::StampPrinter;
+use var_codec::one_word;
 use wild_match::Matcher;
 
 /// What is known of the log types and the words of an archive, for one search.
@@ -52,8 +52,10 @@ use wild_match::Matcher;
 #[derive(Debug, Drop)]
 pub struct Filter {
     pub(crate) tokens: Vec<Token>,
-    /// The bits of all tokens.
+    /// The bits of all tokens, and those of the tokens that are no closed variables, and may stand in
+    /// numbers.
     pub(crate) wanted: u8,
+    pub(crate) numeric: u8,
     /// What is told of all rows of a log type, by their numbers.
     verdicts: Vec<Verdict>,
     /// What a row of a log type needs, by their numbers.
@@ -128,9 +130,11 @@ impl Filter {
         let run_stamps = mark_runs(alloc, runs.as_slice())?;
         let run_stamped = any_of(run_stamps.as_slice());
         let small = SmallNumbers::none(alloc);
+        let numeric = open_bits(looked);
         Ok(Filter {
             tokens,
             wanted,
+            numeric,
             verdicts: Vec::new(alloc),
             needs: Vec::new(alloc),
             tests: Vec::new(alloc),
@@ -467,15 +471,29 @@ impl Filter {
         self.with_all(words, bits)
     }
 
+    /// What a stamp of a page may bring, which has this pattern and this moment.
+    #[inline]
+    pub(crate) fn stamp_at(&self, pattern: u8, moment: i64, page: &PageTests) -> StampBits
+        ensures { IsPage self.now page.now → AreStampBits self.now pattern moment result }
+    {
+        let number = u64::from(pattern);
+        let own = StampBits {
+            runs: mark_at(self.run_stamps.as_slice(), number),
+            tokens: mark_at(self.stamps.as_slice(), number),
+        };
+        page.may_at(pattern, moment, own)
+    }
+
     /// Whether a row of a log type does not bring all tokens, whatever its numbers and its stamp
     /// are: so neither are looked at where a token stands in no word of it that only words may
     /// bring.
     #[inline]
-    fn lacks_words(&self, test: &TypeTest, row: RowRef<'_>) -> bool
-        ensures { IsTrue result → Lacks self.now test.now (row_of row.entry) }
+    fn lacks_words(&self, test: &TypeTest, row: RowRef<'_>, page: &PageTests) -> bool
+        ensures { IsTrue result → IsPage self.now page.now
+            → Lacks self.now test.now (row_of row.entry) }
     {
-        let may = mark_at(self.stamps.as_slice(), u64::from(row.pattern));
-        let others = test.has | self.numbers | may;
+        let may = self.stamp_at(row.pattern, row.moment, page);
+        let others = test.has | self.numbers | may.tokens;
         if has(others, self.wanted) {
             return false;
         }
@@ -486,13 +504,15 @@ impl Filter {
     /// These bits, and those that a row brings by its stamp, which is printed only where its
     /// pattern may bring all that is missing.
     #[inline]
-    fn with_stamp(&self, row: RowRef<'_>, bits: u8, printer: &mut StampPrinter) -> u8
+    fn with_stamp(&self, row: RowRef<'_>, bits: u8, page: &mut PageTests) -> u8
         ensures more { Has result bits }
-        ensures stamp { AreStamps self.now.tokens.items self.now.stamps.items → (s : List ℕ)
+        ensures stamp { IsPage self.now page.old
+            → AreStamps self.now.tokens.items self.now.stamps.items → (s : List ℕ)
             → HasStampText row.entry.pattern row.entry.moment s
             → StampMarks self.now.tokens.items s result }
+        ensures kept { page.new.spans ≡ page.old.spans }
     {
-        let may = mark_at(self.stamps.as_slice(), u64::from(row.pattern));
+        let may = self.stamp_at(row.pattern, row.moment, page).tokens;
         if !has(bits | may, self.wanted) {
             return bits | may;
         }
@@ -501,7 +521,7 @@ impl Filter {
             may,
             row.pattern,
             row.moment,
-            printer,
+            &mut page.printer,
         )
     }
 
@@ -509,17 +529,18 @@ impl Filter {
     /// and at last by its stamp.
     #[inline]
     fn lacks(&self, test: &TypeTest, row: RowRef<'_>, page: &mut PageTests) -> bool
-        ensures lacks { IsTrue result → Lacks self.now test.now (row_of row.entry) }
+        ensures lacks { IsTrue result → IsPage self.now page.old
+            → Lacks self.now test.now (row_of row.entry) }
         ensures kept { page.new.spans ≡ page.old.spans }
     {
-        if self.lacks_words(test, row) {
+        if self.lacks_words(test, row, page) {
             return true;
         }
         let bits = self.with_variables(test, row.words, test.has);
         if has(bits, self.wanted) {
             return false;
         }
-        let all = self.with_stamp(row, bits, &mut page.printer);
+        let all = self.with_stamp(row, bits, page);
         !has(all, self.wanted)
     }
 
@@ -558,8 +579,8 @@ impl Filter {
     /// and where its log type brings them, its variables are not.
     #[inline]
     fn lacks_tokens(&self, row: RowRef<'_>, page: &mut PageTests) -> bool
-        ensures lacks { IsTrue result → LacksStamp self.now (row_of row.entry)
-            ⊎ LacksTokens self.now (row_of row.entry) }
+        ensures lacks { IsTrue result → IsPage self.now page.old
+            → LacksStamp self.now (row_of row.entry) ⊎ LacksTokens self.now (row_of row.entry) }
         ensures kept { page.new.spans ≡ page.old.spans }
     {
         let Some(test) = self.test_at(row.log_type) else {
@@ -572,7 +593,8 @@ impl Filter {
         if has(test.has, self.wanted) {
             return self.lacks_own_run(row, page);
         }
-        !has(test.has | shared, self.wanted) && self.lacks(&test, row, page)
+        !has(test.has | shared, self.wanted)
+            && (self.lacks_hits(&test, row, page) || self.lacks(&test, row, page))
     }
 
     /// Whether a run that the row's log type leaves to stamps stands in no stamp of the row's
@@ -582,9 +604,8 @@ impl Filter {
         ensures { IsTrue result → IsPage self.now page.now
             → LacksStamp self.now (row_of row.entry) }
     {
-        let own = mark_at(self.run_stamps.as_slice(), u64::from(row.pattern));
-        let may = page.may_at(row.pattern, row.moment, own);
-        !has(may, self.alone_at(u64::from(row.log_type)))
+        let may = self.stamp_at(row.pattern, row.moment, page);
+        !has(may.runs, self.alone_at(u64::from(row.log_type)))
     }
 
     /// Whether a row does not bring all runs, or all tokens.
@@ -642,6 +663,7 @@ impl Filter {
         verdicts_hold();
         rows_bring_runs();
         rows_bring_chunks();
+        one_word();
         let Some(verdict) = self.verdict_at(row.log_type) else {
             return Verdict::Tried;
         };

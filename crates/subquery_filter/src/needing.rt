@@ -2,18 +2,22 @@
 //! its variables counts, whatever its slots are.
 ghost use Rattle.std.specs.Prelude.{◌≡◌, ◌≢◌, ◌≤◌, ◌+◌, List, All, IfOk, IfSome, IsFalse, IsTrue, Some, length, slice_get, slice_range};
 ghost use Rattle.std.specs.Int.{cast_signed, w64};
+ghost use Rattle.column_store.specs.Row.{row_of};
 ghost use Rattle.column_store.specs.declared.row.Row.{Row};
-ghost use Rattle.subquery_filter.specs.Filter.{AreNeeds, AreOpenBits, CountsNot, IsNeed, IsNoCode, IsOpenNumber, NoneCounts, Rejects};
-ghost use Rattle.subquery_filter.specs.StepsFilter.{HasEach};
+ghost use Rattle.subquery_filter.specs.Filter.{AreNeeds, AreOpenBits, CountsNot, IsNeed, IsNoCode, IsOpenNumber, IsOpenWord, NoneCounts, Rejects};
+ghost use Rattle.subquery_filter.specs.Page.{IsPage};
+ghost use Rattle.subquery_filter.specs.StepsFilter.{HasEach, LacksHits};
 ghost use Rattle.subquery_filter.specs.declared.verdicts.Verdict.{Verdict};
 
 use crate::bits::has;
 use crate::filter::Filter;
 use crate::laws::{rows_bring_chunks, rows_bring_runs, verdicts_hold};
 use crate::marks::WordMarks;
+use crate::shared::PageTests;
 use crate::slots::TypeTest;
 use crate::token::Token;
 use crate::verdicts::Verdict;
+use column_store::RowRef;
 use std::alloc::{AllocError, Global};
 use var_codec::{Coded, one_word};
 
@@ -40,7 +44,7 @@ fn open_bit(token: &Token) -> u8
 }
 
 /// The bits of the tokens that are no closed variables, and may stand in the texts of numbers.
-fn open_bits(tokens: &[Token]) -> u8
+pub(crate) fn open_bits(tokens: &[Token]) -> u8
     ensures { AreOpenBits tokens.now result }
 {
     let mut bits = 0;
@@ -51,7 +55,8 @@ fn open_bits(tokens: &[Token]) -> u8
 }
 
 /// The marks of all of these words.
-#[inline]
+// Of each caller its own, since these loops are most of what a search by words does.
+#[inline(always)]
 fn marks_of(marks: &WordMarks, block: &[u64]) -> u8
     ensures { HasEach marks.now block.now result }
 {
@@ -99,7 +104,8 @@ fn is_stored(token: &Token, block: &[u64]) -> bool
 }
 
 /// Whether some token is.
-#[inline]
+// Of each caller its own, since these loops are most of what a search by words does.
+#[inline(always)]
 fn are_stored(tokens: &[Token], block: &[u64]) -> bool
     ensures { IsFalse result → All (λ k. All (IsNoCode k) block.now) tokens.now }
 {
@@ -172,6 +178,30 @@ impl Filter {
         ensures { IsFalse result → All (CountsNot self.now) block.now }
     {
         marks_of(&self.marks, block) != 0 || are_stored(self.tokens.as_slice(), block)
+    }
+
+    /// Whether none of these words has a mark beyond those of tokens that numbers may bring, and no
+    /// closed variable is stored as one.
+    #[inline]
+    fn are_open(&self, words: &[u64]) -> bool
+        ensures { IsTrue result → All (IsOpenWord self.now) words.now }
+    {
+        has(self.numeric, marks_of(&self.marks, words))
+            && !are_stored(self.tokens.as_slice(), words)
+    }
+
+    /// Whether a row of a log type does not bring all tokens, as its words tell without a look at its
+    /// slots: what numbers may bring by chance, and its stamp, do not suffice.
+    #[inline]
+    pub(crate) fn lacks_hits(&self, test: &TypeTest, row: RowRef<'_>, page: &PageTests) -> bool
+        ensures { IsTrue result → IsPage self.now page.now
+            → LacksHits self.now test.now (row_of row.entry) }
+    {
+        let may = self.stamp_at(row.pattern, row.moment, page);
+        if has(test.has | self.numeric | may.tokens, self.wanted) {
+            return false;
+        }
+        self.are_open(row.words)
     }
 
     /// A place up to which no word counts from another one on, as blocks of so many words tell.

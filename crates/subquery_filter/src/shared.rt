@@ -1,12 +1,14 @@
 //! What the rows of a page share, so that it is told once for all of them.
 ghost use Rattle.std.specs.Prelude.{◌<◌, ◌≤◌, ℕ, List, length};
 ghost use Rattle.row_codec.specs.Means.{HasStampText};
-ghost use Rattle.subquery_filter.specs.Filter.{RunMarks};
+ghost use Rattle.subquery_filter.specs.Filter.{RunMarks, StampMarks};
 ghost use Rattle.subquery_filter.specs.declared.run.Run.{Run};
+ghost use Rattle.subquery_filter.specs.declared.token.Token.{Token};
 ghost use Rattle.subquery_filter.specs.Page.{AreMay, IsSpan};
 
 use crate::run::Run;
 use crate::run_stamps::span_runs;
+use crate::stamps::span_tokens;
 use crate::token::Token;
 use crate::tokens::chunk_marks;
 use time_patterns::StampPrinter;
@@ -14,20 +16,32 @@ use time_patterns::StampPrinter;
 /// The numbers of patterns are below this.
 const PATTERNS: usize = 32;
 
-/// The least and the greatest moment of rows whose stamps have one pattern, and the bits of the
-/// runs that stamps of the pattern may have between the two.
+/// What a stamp may bring.
+#[derive(Clone, Copy, Debug)]
+pub(crate) struct StampBits {
+    /// The bits of the runs that it may have.
+    pub(crate) runs: u8,
+    /// The bits of the tokens that may lie in it.
+    pub(crate) tokens: u8,
+}
+
+/// The least and the greatest moment of rows whose stamps have one pattern, and what stamps of the
+/// pattern may bring between the two.
 #[derive(Clone, Copy, Debug)]
 pub(crate) struct Span {
     pub(crate) least: i64,
     pub(crate) greatest: i64,
-    pub(crate) may: u8,
+    pub(crate) may: StampBits,
 }
+
+/// Nothing is brought.
+const NO_BITS: StampBits = StampBits { runs: 0, tokens: 0 };
 
 /// No moments.
 const NO_SPAN: Span = Span {
     least: i64::MAX,
     greatest: i64::MIN,
-    may: 0,
+    may: NO_BITS,
 };
 
 /// What goes along from row to row while the rows of a page are told: which tokens stand in all
@@ -55,7 +69,7 @@ fn spans_of(patterns: &[u8], moments: &[i64]) -> [Span; PATTERNS] {
         spans[number] = Span {
             least: span.least.min(moment),
             greatest: span.greatest.max(moment),
-            may: 0,
+            ..NO_SPAN
         };
     }
     spans
@@ -92,20 +106,21 @@ fn span_bits(tokens: &[Token], pattern: u8, span: Span, printer: &mut StampPrint
     chunk_marks(tokens, &low[..front])
 }
 
-/// The same span, with the bits of the runs that stamps of the pattern may have there.
-fn with_runs(runs: &[Run], pattern: u8, span: Span) -> Span
-    ensures { 1 ≤ pattern → IsSpan runs.now pattern result }
+/// The same span, with what stamps of the pattern may bring there.
+fn with_bits(tokens: &[Token], runs: &[Run], pattern: u8, span: Span) -> Span
+    ensures { 1 ≤ pattern → IsSpan tokens.now runs.now pattern result }
 {
-    Span {
-        may: span_runs(runs, pattern, span.least, span.greatest),
-        ..span
-    }
+    let may = StampBits {
+        runs: span_runs(runs, pattern, span.least, span.greatest),
+        tokens: span_tokens(tokens, pattern, span.least, span.greatest),
+    };
+    Span { may, ..span }
 }
 
 impl PageTests {
     /// Nothing is known to be shared. Takes no memory.
     pub fn new() -> PageTests
-        ensures { (runs : List Run) → AreMay runs result.spans }
+        ensures { (tokens : List Token) (runs : List Run) → AreMay tokens runs result.spans }
     {
         PageTests {
             printer: StampPrinter::new(),
@@ -117,19 +132,20 @@ impl PageTests {
     /// Adds what the stamps of a pattern share between two moments, and may have.
     fn add_span(&mut self, tokens: &[Token], runs: &[Run], number: u8, span: Span)
         requires { (1 ≤ number) × (number < 32) }
-        ensures { AreMay runs.now self.old.spans → AreMay runs.now self.new.spans }
+        ensures { AreMay tokens.now runs.now self.old.spans
+            → AreMay tokens.now runs.now self.new.spans }
     {
         if span.greatest < span.least {
             return;
         }
         let place = usize::from(number);
         self.shared[place] = span_bits(tokens, number, span, &mut self.printer);
-        self.spans[place] = with_runs(runs, number, span);
+        self.spans[place] = with_bits(tokens, runs, number, span);
     }
 
     /// What the stamps of a page share, whose rows have these patterns and moments.
     pub(crate) fn of(tokens: &[Token], runs: &[Run], patterns: &[u8], moments: &[i64]) -> PageTests
-        ensures { AreMay runs.now result.spans }
+        ensures { AreMay tokens.now runs.now result.spans }
     {
         let mut tests = PageTests::new();
         let spans = spans_of(patterns, moments);
@@ -139,11 +155,15 @@ impl PageTests {
         tests
     }
 
-    /// The bits of the runs that the stamp of a row may have, of those that its pattern may have.
+    /// What the stamp of a row may bring, of what stamps of its pattern may.
     #[inline]
-    pub(crate) fn may_at(&self, pattern: u8, moment: i64, own: u8) -> u8
-        ensures { (runs : List Run) (s : List ℕ) → AreMay runs self.now.spans
-            → HasStampText pattern moment s → RunMarks runs s own → RunMarks runs s result }
+    pub(crate) fn may_at(&self, pattern: u8, moment: i64, own: StampBits) -> StampBits
+        ensures runs { (tokens : List Token) (runs : List Run) (s : List ℕ)
+            → AreMay tokens runs self.now.spans → HasStampText pattern moment s
+            → RunMarks runs s own.runs → RunMarks runs s result.runs }
+        ensures tokens { (tokens : List Token) (runs : List Run) (s : List ℕ)
+            → AreMay tokens runs self.now.spans → HasStampText pattern moment s
+            → StampMarks tokens s own.tokens → StampMarks tokens s result.tokens }
     {
         let place = usize::from(pattern);
         if place >= PATTERNS {

@@ -1,5 +1,5 @@
 //! Which tokens lie in stamps, with what stands around them in the pattern.
-ghost use Rattle.std.specs.Prelude.{◌≡◌, ◌<◌, ℕ, ℤ, List, IfOk, IsFalse, length};
+ghost use Rattle.std.specs.Prelude.{◌≡◌, ◌<◌, ◌≤ℤ◌, ℕ, ℤ, List, IfOk, IsFalse, length};
 ghost use Rattle.row_codec.specs.Means.{HasStampText};
 ghost use Rattle.time_patterns.specs.Stamps.{Prints};
 ghost use Rattle.subquery_filter.specs.Filter.{AreStamps, IsWithin, StampMarks};
@@ -163,32 +163,46 @@ pub(crate) fn stamp_bits(
     }
 }
 
-/// Whether a token may lie in a stamp of the pattern in a segment with this head.
-fn may_lie_within(token: &Token, pattern: u8, head: &Head) -> bool
-    ensures { IsFalse result → (moment : ℤ) (s : List ℕ) → IsWithin head.now moment
+/// Whether a token may lie in a stamp of the pattern between two moments.
+fn may_lie_between(token: &Token, pattern: u8, least: i64, greatest: i64) -> bool
+    ensures { IsFalse result → (moment : ℤ) (s : List ℕ) → least ≤ℤ moment → moment ≤ℤ greatest
         → Prints pattern moment s → ¬ LiesInStamp token.now.chunk token.now.text s }
 {
     let chunk = token.chunk.as_slice();
-    if may_hold_between(pattern, chunk, head.least, head.greatest) {
+    if may_hold_between(pattern, chunk, least, greatest) {
         return true;
     }
     may_lie_across(pattern, chunk)
-        && may_hold_between(pattern, token.text.as_slice(), head.least, head.greatest)
+        && may_hold_between(pattern, token.text.as_slice(), least, greatest)
 }
 
-/// The bit of a token that may lie in a stamp of the pattern in a segment with this head.
-fn bit_within(token: &Token, pattern: u8, head: &Head) -> u8
-    ensures { (moment : ℤ) (s : List ℕ) → IsWithin head.now moment → Prints pattern moment s
-        → LiesInStamp token.now.chunk token.now.text s → result ≡ token.now.bit }
+/// The bit of a token that may lie in a stamp of the pattern between two moments.
+fn bit_between(token: &Token, pattern: u8, least: i64, greatest: i64) -> u8
+    ensures { (moment : ℤ) (s : List ℕ) → least ≤ℤ moment → moment ≤ℤ greatest
+        → Prints pattern moment s → LiesInStamp token.now.chunk token.now.text s
+        → result ≡ token.now.bit }
 {
-    if may_lie_within(token, pattern, head) {
+    if may_lie_between(token, pattern, least, greatest) {
         token.bit
     } else {
         0
     }
 }
 
-/// The bits of the tokens that may stand in such a stamp, of those that the pattern may bring.
+/// The bits of the tokens that may lie in a stamp of the pattern between two moments.
+pub(crate) fn span_tokens(tokens: &[Token], pattern: u8, least: i64, greatest: i64) -> u8
+    ensures { (moment : ℤ) (s : List ℕ) → least ≤ℤ moment → moment ≤ℤ greatest
+        → Prints pattern moment s → StampMarks tokens.now s result }
+{
+    let mut bits = 0;
+    for token in tokens {
+        bits |= bit_between(token, pattern, least, greatest);
+    }
+    bits
+}
+
+/// The bits of the tokens that may lie in a stamp of the pattern in a segment with this head, of
+/// those that the pattern may bring.
 fn pattern_within(tokens: &[Token], may: u8, pattern: u8, head: &Head) -> u8
     ensures { (moment : ℤ) (s : List ℕ) → IsWithin head.now moment → Prints pattern moment s
         → StampMarks tokens.now s may → StampMarks tokens.now s result }
@@ -196,11 +210,7 @@ fn pattern_within(tokens: &[Token], may: u8, pattern: u8, head: &Head) -> u8
     if may == 0 {
         return 0;
     }
-    let mut bits = 0;
-    for token in tokens {
-        bits |= bit_within(token, pattern, head);
-    }
-    bits
+    span_tokens(tokens, pattern, head.least, head.greatest)
 }
 
 /// The bits of the tokens that may stand in the stamps of a segment with this head, by what the

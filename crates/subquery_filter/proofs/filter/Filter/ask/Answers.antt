@@ -18,6 +18,7 @@ returns-clause-asks g c = asks_ok c.args.plan.now (g.N.Names.types c.args.names.
       cut = a.cut;
       are = a.are;
       wanted = a.wanted;
+      numeric = a.numeric;
       tests =
           subst (λ (x : ℕ). AreTests c.args.plan.now c.args.self.tokens.items x types slots tests) c.others-others.ensures
           (subst (λ (l : List Token). AreTests c.args.plan.now l c.others-others.result types slots tests) looked (c.in_ok-test_types.ensures.tests c.all_bits.ensures.each (c.kind_bits.ensures coded)));
@@ -48,6 +49,7 @@ returns-clause-filter g c = filters_ok c.args.plan.now (g.N.Names.types c.args.n
         cut = a.cut;
         are = a.are;
         wanted = a.wanted;
+        numeric = a.numeric;
         tests =
             subst (λ (x : ℕ). AreTests c.args.plan.now c.args.self.tokens.items x types slots tests) c.others-others.ensures
             (subst (λ (l : List Token). AreTests c.args.plan.now l c.others-others.result types slots tests) looked (c.in_ok-test_types.ensures.tests c.all_bits.ensures.each (c.kind_bits.ensures coded)));

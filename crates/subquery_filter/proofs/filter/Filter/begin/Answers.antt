@@ -3,7 +3,7 @@ use Rattle.std.specs.Prelude.{bit_or, slice_index_or}
 use Rattle.query_plan.specs.Pieces.{IsCut}
 use Rattle.subquery_filter.specs.declared.run.Run.{Run}
 use Rattle.subquery_filter.specs.declared.token.Token.{Token}
-use Rattle.subquery_filter.specs.Filter.{AreCoded, AreNumberBits, AreRunStamps, AreRuns, AreStamps, AreTexts, Has, IsWanted, marks_at}
+use Rattle.subquery_filter.specs.Filter.{AreCoded, AreNumberBits, AreOpenBits, AreRunStamps, AreRuns, AreStamps, AreTexts, Has, IsWanted, marks_at}
 use Rattle.subquery_filter.specs.StepsFilter.{AreTokens}
 use Rattle.subquery_filter.proofs.AloneLemmas.{alone_none}
 use Rattle.subquery_filter.proofs.ClosedLemmas.{are_coded}
@@ -24,6 +24,7 @@ returns c = λ types.
       cut = subst IsCut c.pieces-pieces.ensures.pieces c.pieces-pieces.ensures.cut;
       are = subst (λ ps. AreTokens ps tokens) c.pieces-pieces.ensures.pieces c.in_ok-tokens.ensures;
       wanted = subst (λ (l : List Token). IsWanted l c.all_bits-wanted.result) looked c.all_bits-wanted.ensures.only;
+      numeric = subst (λ (l : List Token). AreOpenBits l c.open_bits-numeric.result) looked c.open_bits-numeric.ensures;
       tests = tests_none _ tokens _ types _ _ (search rules);
       needles = subst (λ (l : List Token). AreTexts l needles) looked c.in_ok-needles.ensures;
       told = told_none _ _ (search rules);

@@ -17,6 +17,7 @@ returns c = λ ps types words a have.
         cut = a.cut;
         are = a.are;
         wanted = a.wanted;
+        numeric = a.numeric;
         tests = tests_none ps tokens _ types _ _ (search rules);
         needles = a.needles;
         told = told_none _ _ (search rules);

@@ -1,11 +1,12 @@
 use Rattle.std.proofs.Common.{rules}
 use Rattle.column_store.specs.Row.{row_of}
-use Rattle.subquery_filter.proofs.FilterLemmas.{row_lacks_some, told_certain, told_verdict}
+use Rattle.subquery_filter.proofs.FilterLemmas.{told_certain, told_verdict}
+use Rattle.subquery_filter.proofs.NeedLemmas.{row_lacks_some}
 use Rattle.subquery_filter.proofs.filter.Filter.verdict_in.Goals as goal
 
 pub returns-then-lacks_some-clause-told : goal.returns-then-lacks_some-clause-told
 returns-then-lacks_some-clause-told c = λ page p types words searched is.
-    row_lacks_some (c.rows_bring_runs.ensures.runs, c.rows_bring_runs.ensures.closed, c.rows_bring_chunks.ensures) p types words c.args.self.now is (row_of c.args.row) c.in-Some.verdict (search rules) (search rules) (c.lacks_some.ensures.lacks (search rules) page)
+    row_lacks_some c.one_word.ensures (c.rows_bring_runs.ensures.runs, c.rows_bring_runs.ensures.closed, c.rows_bring_chunks.ensures) p types words c.args.self.now is (row_of c.args.row) c.in-Some.verdict (search rules) (search rules) (c.lacks_some.ensures.lacks (search rules) page)
 
 pub returns-clause-told : goal.returns-clause-told
 returns-clause-told c = λ page p types words searched is.
