@@ -501,8 +501,8 @@ impl Filter {
         !has(all, self.wanted)
     }
 
-    /// These bits, and those that a row brings by its stamp, which is printed only where its
-    /// pattern may bring all that is missing.
+    /// These bits, and those that a row brings by its stamp, which is printed only where stamps of
+    /// its pattern on the page may bring all that is missing.
     #[inline]
     fn with_stamp(&self, row: RowRef<'_>, bits: u8, page: &mut PageTests) -> u8
         ensures more { Has result bits }

@@ -45,8 +45,8 @@ const NO_SPAN: Span = Span {
 };
 
 /// What goes along from row to row while the rows of a page are told: which tokens stand in all
-/// stamps of a pattern there, which runs may stand in some, and the day of the last stamp that was
-/// printed.
+/// stamps of a pattern there, which runs and tokens may stand in some, and the day of the last stamp
+/// that was printed.
 ///
 /// That a token stands in all of them is a hint: a row that brings all tokens so is tried, as any
 /// row may be.
