@@ -1,5 +1,5 @@
 -- What files that were moved leave, from what became of them over the store.
-use Rattle.std.proofs.Common.{◌≡◌, ℕ, zero, suc, ◌+◌, ◌-◌, ◌&&◌, ◌==◌, Bool, true, false, if◌then◌else◌, List, [], ◌∷◌, ◌++◌, length, drop, sym, refl, ap, ◌∙◌, subst, arith, Option, None, Some, is_some, slice_get, All, ◌^◌, ◌<◌, ◌≤◌, ⊎_elim, inl, inr, append_assoc, ap₂}
+use Rattle.std.proofs.Common.{◌≡◌, ℕ, zero, suc, ◌+◌, ◌-◌, ◌&&◌, ◌==◌, Bool, true, false, if◌then◌else◌, List, [], ◌∷◌, ◌++◌, length, drop, sym, refl, ap, ◌∙◌, subst, arith, Option, None, Some, is_some, slice_get, All, ◌^◌, ◌<◌, ◌≤◌, ⊎_elim, inl, inr, append_assoc, length-append, ap₂}
 use Rattle.std.specs.Prelude.{is_none}
 use Rattle.std.specs.List.{cons_option, filter, filter_map, Contains}
 use Rattle.std.specs.List.Sorted.{IsNonDecreasingBy}
@@ -61,11 +61,11 @@ use Rattle.archive_merge.specs.declared.merger.Merger.{Merger}
 use Rattle.archive_merge.specs.declared.merger.BookPasses.{BookPasses}
 use Rattle.archive_merge.specs.declared.merger.Second.{Second}
 use Rattle.archive_merge.specs.declared.merger.Stopped.{Stopped}
-use Rattle.archive_merge.specs.Behind.{HasStored, needed_of, IsMovedFile, IsNewIn, IsOfFiles, MayBegin, OnlyRead, SecondView, second_by, HasRun, HasStopCause, HasStopped, IsDone, old_texts, places_for}
+use Rattle.archive_merge.specs.Behind.{HasStored, done_of, needed_of, IsMovedFile, IsNewIn, IsOfFiles, MayBegin, OnlyRead, SecondView, second_by, HasRun, HasStopCause, HasStopped, IsDone, old_texts, places_for}
 use Rattle.archive_merge.specs.Files.{AreCutAs, CameOver, IsNotDone}
 use Rattle.archive_merge.specs.Locked.{HasMovedOver, MayMoveAt}
-use Rattle.archive_merge.specs.Merger.{DidFile, MayMoveFile, MovesOn, PassesAdd, StaysRead, file_at, needed_in, passes_of, HasMoved, IsOneOf, IsStopFor, books_of}
-use Rattle.archive_merge.specs.MergerLaws.{passes_in_is}
+use Rattle.archive_merge.specs.Merger.{DidFile, MayMoveFile, MovesOn, PassesAdd, StaysRead, file_at, needed_in, passes_of, HasMoved, IsOneOf, IsReachedOf, IsStopFor, books_of}
+use Rattle.archive_merge.specs.MergerLaws.{passes_in_is, passes_then, passes_wider}
 use Rattle.archive_merge.specs.Runs.{HoldRun, nothing_so_far, SoFar}
 use Rattle.archive_merge.specs.Taken.{texts_by}
 
@@ -239,11 +239,11 @@ module _ {D : Type 0} {d : DiskGhosts D} (view : SecondView) (first : ℕ) (stop
 -- ---- the passes
 
 module _ {M E : Type 0} {N : NamesGhosts M} {H : DiskGhosts E} (types words : M → List (List ℕ)) (version : M → ℕ) (state : E → DiskState) where
-  pub adds_between : (w v : Merger M E N H) (s : Second M E) (b c : BookPasses) → w.second ≡ s → w.passes ≡ Some b → v.passes ≡ Some c
-      → PassesAdd (needed_in types words version state w) (passes_of w) (passes_of v) → PassesAdd (needed_of (second_by types words version state s)) b c
-  adds_between w v s b c same had has adds = subst (λ x. PassesAdd (needed_of (second_by types words version state x)) b c) same
-      (subst (λ x. PassesAdd (needed_in types words version state w) x c) (passes_in_is w.passes w.full b had)
-      (subst (λ x. PassesAdd (needed_in types words version state w) (passes_of w) x) (passes_in_is v.passes v.full c has) adds))
+  pub adds_between : (w v : Merger M E N H) (s : Second M E) (first done : ℕ) (files : List Merged) (b c : BookPasses) → w.second ≡ s → w.passes ≡ Some b → v.passes ≡ Some c
+      → PassesAdd (needed_of (second_by types words version state w.second) first done files) (passes_of w) (passes_of v) → PassesAdd (needed_of (second_by types words version state s) first done files) b c
+  adds_between w v s first done files b c same had has adds = subst (λ x. PassesAdd (needed_of (second_by types words version state x) first done files) b c) same
+      (subst (λ x. PassesAdd (needed_of (second_by types words version state w.second) first done files) x c) (passes_in_is w.passes w.full b had)
+      (subst (λ x. PassesAdd (needed_of (second_by types words version state w.second) first done files) (passes_of w) x) (passes_in_is v.passes v.full c has) adds))
 
 -- ---- the second archive
 
@@ -654,7 +654,64 @@ module _ {M E D : Type 0} {N : NamesGhosts M} {H : DiskGhosts E} {d : DiskGhosts
         cause = cause_of books s.job.file s.done.job.messages s.place moved.places s.p s.done.keeper (passes_of s.done.after) are (h.opened s.place s.p s.p_is) ((h.opened s.place s.p s.p_is).number ∙ sym (begin.new s.place s.job s.is).file_is) moved.came.added.seen_on (h.seen_on s.place s.done.keeper s.done.keeper_is) back kept more_after why.cause damaged
             (subst (λ (v : SecondView). HasMoveCause d.state v.version v.texts moved.places v.told s.done.job.messages s.p s.done.keeper (books_of (passes_of s.done.after)) why.cause) same stop.cause)
 
+    -- what was reached of a piece of the files, up to the last of it, was reached of them
+    further : (bf fs bh : List Merged) (done end : ℕ) → js' ≡ bf ++ (fs ++ bh) → length bf + length fs ≤ end + 1 → (place : SegmentPlace)
+        → IsReachedOf view.version view.texts view.told view.segments first done fs place → IsReachedOf view.version view.texts view.told view.segments first end js' place
+    further bf fs bh done end cut short place r = let within = slice_get_within fs r.number r.file r.is in record {
+      number = length bf + r.number;
+      file = r.file;
+      is = ap (λ l. slice_get l (length bf + r.number)) cut ∙ (at_right bf (fs ++ bh) r.number ∙ (in_left fs bh r.number within ∙ r.is));
+      upto = omega (arith, within, short);
+      there = r.there;
+      reached = r.reached;
+    }
+
+    -- what rows need that were reached up to the file that stopped it is all that was named
+    named : w.first ≡ first → w.stop ≡ None → (o : Option Stopped) → w'.stop ≡ o → PassesAdd (needed_of view first (done_of first (length js') o) js') (passes_of w) (passes_of w')
+    named same_first none None is = subst (λ n. PassesAdd (needed_of view n (length js') js') (passes_of w) (passes_of w')) same_first h.moved.went.adds
+    named same_first none (Some why) is = passes_then here (passes_of w) (passes_of s.done.before) (passes_of w') in_front
+        (subst (PassesAdd here (passes_of s.done.before)) (sym (s.goes.passes_are (λ no. absurd (cc (no, s.stopped))))) this)
+      where
+        s : StoppedAt why
+        s = stopped_at none why is
+
+        here : Which → List ℕ → Type 0
+        here = needed_of view first (why.file - first) js'
+
+        last : why.file - first ≡ s.place
+        last = let a = (begin.new s.place s.job s.is).file_is in let b = s.file in omega (arith, a, b)
+
+        in_front : PassesAdd here (passes_of w) (passes_of s.done.before)
+        in_front = passes_wider (needed_of view first (length s.done.front') s.done.front') here
+            (λ book text (place, r, is). (
+              place,
+              further s.done.of_piece.before' s.done.front' (s.done.job ∷ (s.done.rest' ++ s.done.of_piece.behind')) (length s.done.front') (why.file - first) s.done.of_piece.cut'
+                  (let a = s.done.of_piece.even in let b = s.done.of_piece.same in let c = s.done.of_piece.place in omega (arith, a, b, c, last)) place r,
+              is,
+            )) (passes_of w) (passes_of s.done.before)
+            (subst (λ n. PassesAdd (needed_of view n (length s.done.front') s.done.front') (passes_of w) (passes_of s.done.before)) same_first s.went.adds)
+
+        this : PassesAdd here (passes_of s.done.before) (passes_of s.done.after)
+        this = passes_wider (needed_of view first 1 (s.done.job ∷ [])) here
+            (λ book text (place, r, is). (
+              place,
+              further (s.done.of_piece.before' ++ s.done.front') (s.done.job ∷ []) (s.done.rest' ++ s.done.of_piece.behind') 1 (why.file - first)
+                  (s.done.of_piece.cut' ∙ sym (append_assoc s.done.of_piece.before' s.done.front' (s.done.job ∷ (s.done.rest' ++ s.done.of_piece.behind'))))
+                  (let a = s.done.of_piece.even in let b = s.done.of_piece.same in let c = s.done.of_piece.place in omega (arith, length-append s.done.of_piece.before' s.done.front', a, b, c, last)) place r,
+              is,
+            )) (passes_of s.done.before) (passes_of s.done.after)
+            (subst (λ n. PassesAdd (needed_of view n 1 (s.done.job ∷ [])) (passes_of s.done.before) (passes_of s.done.after)) (s.went.first_is ∙ same_first)
+            (subst (λ v. PassesAdd (needed_of v s.done.before.first 1 (s.done.job ∷ [])) (passes_of s.done.before) (passes_of s.done.after))
+            (view_same types words version state_second s.done.front s.done.front' w s.done.before s.went) (s.done.did_it.moved s.ran).adds))
+
   module _ (before after : Journal D d) (types_reader words_reader : BookPass) (t u : ℕ) (store : StoreView D) where
+    pub named_by : (o : StoreView D) (f first : ℕ) (w w' : Merger M E N H) (js js' : List Merged) → o ≡ opened before types_reader words_reader t u → f ≡ first → w.first ≡ first → w.stop ≡ None → MayBegin first (version w.second.names.now) before js
+        → HasMovedOver types words version d.state state_second f w w' js js' o store
+        → PassesAdd (needed_of (view_of types words version state_second w) first (done_of first (length js') w'.stop) js') (passes_of w) (passes_of w')
+    named_by o f first w w' js js' is same same_first none begin h = named before after types_reader words_reader t u store first w w' js js' begin
+        (subst (λ (n : ℕ). HasMovedOver types words version d.state state_second n w w' js js' (opened before types_reader words_reader t u) store) same
+        (subst (λ (x : StoreView D). HasMovedOver types words version d.state state_second f w w' js js' x store) is h)) same_first none w'.stop refl
+
     pub why_by : (o : StoreView D) (f first : ℕ) (w w' : Merger M E N H) (js js' : List Merged) (books : Books) → o ≡ opened before types_reader words_reader t u → f ≡ first → w.first ≡ first → w.stop ≡ None → MayBegin first (version w.second.names.now) before js
         → HasMovedOver types words version d.state state_second f w w' js js' o store → IsJournalOf store after → Kept (state_by d.state store)
         → ((book : Which) → IsMore (book_of (books_by (pass_in (passes_of w').types) (pass_in (passes_of w').words)) book) (book_of books book))

@@ -1,9 +1,11 @@
 -- The passes of both books, from their making to their end.
-use Rattle.std.proofs.Common.{◌≡◌, ℕ, zero, suc, ◌+◌, Bool, true, false, List, [], ◌∷◌, ◌++◌, sym, refl, ap, ◌∙◌, subst, arith, Option, None, Some, is_some, slice_get, All, ap₂, drop, length}
+use Rattle.std.proofs.Common.{◌≡◌, ◌≤◌, ◌⊎◌, ℕ, zero, suc, ◌+◌, Bool, true, false, List, [], ◌∷◌, ◌++◌, sym, refl, ap, ◌∙◌, subst, arith, Option, None, Some, is_some, slice_get, All, ap₂, drop, length}
 use Rattle.std.specs.List.{Contains}
 use Rattle.std.proofs.lemmas.List.Elements.{All-nil}
+use Rattle.std.proofs.lemmas.Option.{slice_get_within}
 use Rattle.log_seams.specs.declared.disk.Disk.{Ghosts as DiskGhosts}
 use Rattle.logtype_text.specs.Fair.{IsFairType, IsFairWord}
+use Rattle.turn_lock.proofs.FrontLemmas.{prefix_get}
 use Rattle.turn_lock.specs.declared.grows.Grows.{Ghosts}
 use Rattle.turn_lock.specs.History.{StandsIn}
 use Rattle.turn_lock.specs.Words.{IsAllOwned, IsFreshOf, IsStill, IsStillBy, lock_of, made_by, number_of, own_list, seen_by}
@@ -19,16 +21,18 @@ use Rattle.archive_meaning.specs.Spelled.{types_of}
 use Rattle.ingest_meaning.specs.WordsIn.{words_of}
 use Rattle.ingest_fork.specs.Passes.{AreStill, Fresh, Joined}
 use Rattle.ingest_fork.proofs.PassLemmas.{fresh_more, fresh_none}
+use Rattle.ingest_fork.proofs.PlaceLemmas.{in_left, there_is}
 use Rattle.disk_seal.specs.Told.{IfTold, journal_in}
 use Rattle.disk_seal.specs.View.{KnowsBook, StoreState, journal_of, state_by}
-use Rattle.ingest_workers.specs.Ingested.{OpensBook, told_entries, books_at, known_at}
+use Rattle.ingest_workers.specs.Ingested.{HasBook, OpensBook, told_entries, books_at, known_at}
 use Rattle.ingest_workers.specs.Naming.{AddsOnly}
 use Rattle.ingest_workers.specs.StartedWorkers.{BookMaker, EndsBook}
 use Rattle.ingest_workers.proofs.ClosingLemmas.{ends_book, own_texts, texts_given, types_joined, words_joined}
 use Rattle.ingest_workers.proofs.IngestLemmas.{later}
-use Rattle.plain_list.specs.Texts.{AreDistinct}
+use Rattle.plain_list.specs.Texts.{AreDistinct, IsNew}
 use Rattle.row_codec.specs.declared.namer.Which.{Which}
 use Rattle.row_codec.specs.declared.namer.Which.TheVariants.{Types as WhichTypes, Words as WhichWords}
+use Rattle.row_codec.specs.Naming.{Known}
 use Rattle.disk_seal.specs.Known.{known_of, limit_in}
 use Rattle.ingest_workers.specs.Full.{IsMore, WasFull, book_of, books_by}
 use Rattle.ingest_workers.proofs.GivenLemmas.{full_given, noted_behind, texts_behind}
@@ -38,7 +42,7 @@ use Rattle.archive_merge.specs.declared.cause.MergeCause.TheVariants.{ArchiveFul
 use Rattle.std.specs.Prelude.{min}
 use mathlib.Core.List.{IsPrefix}
 use Rattle.segment_format.specs.Layout.{sorted_set}
-use Rattle.ingest_meaning.specs.Dictionaries.{book_texts}
+use Rattle.ingest_meaning.specs.Dictionaries.{IsFullBy, book_texts}
 use Rattle.ingest_meaning.specs.Room.{record_need, texts_need}
 use Rattle.ingest_workers.specs.NoRoom.{WereKnown}
 use Rattle.ingest_workers.proofs.JournalLemmas.{all_canonical}
@@ -46,7 +50,7 @@ use Rattle.ingest_workers.proofs.OpenSegmentLemmas.{same_numbers}
 use Rattle.archive_merge.specs.declared.file.Merged.{Merged}
 use Rattle.archive_merge.specs.declared.merger.BookPasses.{BookPasses}
 use Rattle.archive_merge.specs.declared.merger.Stopped.{Stopped}
-use Rattle.archive_merge.specs.Behind.{HasMerged, needed_of, SecondView, HasStopCause, IsFullByBoth, old_texts, AreOfBoth, LackedRoom}
+use Rattle.archive_merge.specs.Behind.{HasMerged, done_of, needed_of, SecondView, HasStopCause, IsFullByBoth, old_texts, AreOfBoth, LackedRoom}
 use Rattle.archive_merge.specs.Ended.{AreOf, WereMovedOver, HasEnded}
 use Rattle.archive_merge.specs.Merger.{MayName, PassesAdd}
 
@@ -127,6 +131,33 @@ drop_front : {X : Type 0} (xs ys : List X) → drop (length xs) (xs ++ ys) ≡ y
 drop_front [] ys = refl
 drop_front (x ∷ xs) ys = drop_front xs ys
 
+-- a text that met a full book is none of those that it had before
+new_too : (next : List ℕ → Type 0) (texts more : List (List ℕ)) (count : ℕ) (known : Known) → (full : WasFull next count known) → IsPrefix full.front (texts ++ more) → length texts ≤ count → WasFull (λ t. next t × IsNew texts t) count known
+new_too next texts more count known full on few = record {
+  limit = full.limit;
+  front = full.front;
+  begins = full.begins;
+  all = full.all;
+  text = full.text;
+  is = (full.is, λ i at. not_there i at);
+  new = full.new;
+}
+  where
+    not_there : (i : ℕ) → slice_get texts i ≡ Some full.text → ⊥
+    not_there i at =
+        let lt = slice_get_within texts i full.text at in
+        let x = there_is full.front i (omega (arith, lt, few, full.all)) in
+        let one : slice_get (texts ++ more) i ≡ Some full.text = in_left texts more i lt ∙ at in
+        let two : slice_get (texts ++ more) i ≡ Some x.0 = prefix_get full.front (texts ++ more) i x.0 on x.1 in
+        let same : x.0 ≡ full.text = cc (one, two) in
+        full.new i (x.1 ∙ ap (λ (t : List ℕ). Some t) same)
+
+-- a book has no more texts than it may
+few_texts : (told : Bool) (limit : ℕ) (texts : List (List ℕ)) (saved : ℕ) (b : BookState) → HasBook told limit texts saved b → told ≡ true → length b.texts ≤ b.limit → {count : ℕ} → count ≡ limit → length texts ≤ count
+few_texts told limit texts saved b has told_is low is =
+    let are = of_told told _ told_is has.are in let long = ap length are.0 in let most = are.1 in
+    omega (arith, low, long, most, is)
+
 -- the same cause, where more is told of a full book, and of the texts of a book
 module _ {D : Type 0} {d : DiskGhosts D} (view : SecondView) (first file done : ℕ) (before after : Journal D d) (full full' : Which → ℕ → Type 0) (has has' : List JournalEntry → Which → List (List ℕ) → Type 0) where
   cause_on : ((book : Which) (count : ℕ) → full book count → full' book count)
@@ -140,30 +171,35 @@ module _ {D : Type 0} {d : DiskGhosts D} (view : SecondView) (first file done : 
   cause_on more room OutOfMemory was = tt
 
 module _ {D : Type 0} {d : DiskGhosts D} {G : Ghosts BookState (List ℕ) ℕ} (view : SecondView) (first : ℕ) (stop : Option Stopped) (js js' : List Merged) (before after : Journal D d) (types types' words words' : BookMaker G) where
+  -- the texts that rows need that were reached
+  abbrev needs : Which → List ℕ → Type 0
+  needs = needed_of view first (done_of first (length js') stop) js'
+
   pub has_merged : (t_saved w_saved : ℕ)
-      → OpensBook 0 (is_some (state_of before).disk.seen) before.header.types_limit (types_of (told_entries (state_of before))) t_saved types
-      → OpensBook WORDS_FIRST (is_some (state_of before).disk.seen) before.header.words_limit (words_of (told_entries (state_of before))) w_saved words
+      → (to : OpensBook 0 (is_some (state_of before).disk.seen) before.header.types_limit (types_of (told_entries (state_of before))) t_saved types)
+      → (wo : OpensBook WORDS_FIRST (is_some (state_of before).disk.seen) before.header.words_limit (words_of (told_entries (state_of before))) w_saved words)
+      → length to.book.texts ≤ to.book.limit → length wo.book.texts ≤ wo.book.limit
       → WereMovedOver view first stop js js' before after types types' words words' → IsAllOwned IsFair types' → IsAllOwned IsFair words' → AreDistinct (seen_by types') → AreDistinct (seen_by words') → HasMerged view first stop js js' before after
-  has_merged t_saved w_saved to wo h t_owned w_owned t_apart w_apart = record {
+  has_merged t_saved w_saved to wo t_low w_low h t_owned w_owned t_apart w_apart = record {
     store = h.store;
     stored = h.stored;
-    types = by_told told (All (needed_of view WhichTypes) (types_of fresh))
-        (texts_given (needed_of view WhichTypes) IsFairType 0 told before.header.types_limit s.header.types_limit (types_of (told_entries (state_of before))) (types_of (journal_of s)) (types_of fresh)
+    types = by_told told (All (needs WhichTypes) (types_of fresh))
+        (texts_given (needs WhichTypes) IsFairType 0 told before.header.types_limit s.header.types_limit (types_of (told_entries (state_of before))) (types_of (journal_of s)) (types_of fresh)
         t_saved s.types_saved types types' s.types to h.of_types t_owned (subst (λ b. KnowsBook IsFairType 0 s.header.types_limit b s.types s.types_saved (types_of (journal_of s))) same_told h.stored.left_by.kept.types)
         (ap types_of h.stored.grown ∙ types_joined (told_entries (state_of before)) fresh))
-        (λ untold. subst (λ es. All (needed_of view WhichTypes) (types_of es)) (sym (no_more untold)) (All-nil (needed_of view WhichTypes)));
-    words = by_told told (All (needed_of view WhichWords) (words_of fresh))
-        (texts_given (needed_of view WhichWords) IsFairWord WORDS_FIRST told before.header.words_limit s.header.words_limit (words_of (told_entries (state_of before))) (words_of (journal_of s)) (words_of fresh)
+        (λ untold. subst (λ es. All (needs WhichTypes) (types_of es)) (sym (no_more untold)) (All-nil (needs WhichTypes)));
+    words = by_told told (All (needs WhichWords) (words_of fresh))
+        (texts_given (needs WhichWords) IsFairWord WORDS_FIRST told before.header.words_limit s.header.words_limit (words_of (told_entries (state_of before))) (words_of (journal_of s)) (words_of fresh)
         w_saved s.words_saved words words' s.words wo h.of_words w_owned (subst (λ b. KnowsBook IsFairWord WORDS_FIRST s.header.words_limit b s.words s.words_saved (words_of (journal_of s))) same_told h.stored.left_by.kept.words)
         (ap words_of h.stored.grown ∙ words_joined (told_entries (state_of before)) fresh))
-        (λ untold. subst (λ es. All (needed_of view WhichWords) (words_of es)) (sym (no_more untold)) (All-nil (needed_of view WhichWords)));
+        (λ untold. subst (λ es. All (needs WhichWords) (words_of es)) (sym (no_more untold)) (All-nil (needs WhichWords)));
     why = λ one is. let was = h.why one is in record {
       place = was.place;
       file = was.file;
       is = was.is;
       file_is = was.file_is;
       not_done = was.not_done;
-      cause = cause_on view first was.file.file was.file.messages before after (λ book count. WasFull (Contains (old_texts view book)) count (book_of (books_at types' words') book)) (IsFullByBoth view before) (WereKnown (books_at types' words')) (AreOfBoth view) full
+      cause = cause_on view first was.file.file was.file.messages before after (λ book count. WasFull (Contains (old_texts view book)) count (book_of (books_at types' words') book)) (IsFullByBoth needs view before) (WereKnown (books_at types' words')) (AreOfBoth needs) full
           (λ end need lacked. if_told told _ (λ told_is. room was.file.file was.file.messages end need told_is (of_told told _ told_is lacked))) one.cause was.cause;
     };
   }
@@ -180,27 +216,44 @@ module _ {D : Type 0} {d : DiskGhosts D} {G : Ghosts BookState (List ℕ) ℕ} (
       same_told : is_some (d.state h.store.opened).seen ≡ told
       same_told = ap (λ (x : D). is_some (d.state x).seen) h.stored.left_by.opened
 
-      full : (book : Which) (count : ℕ) → WasFull (Contains (old_texts view book)) count (book_of (books_at types' words') book) → IsFullByBoth view before book count
-      full WhichTypes count is = if_told told _ (λ told_is.
-          full_given (needed_of view WhichTypes) IsFairType 0 told before.header.types_limit s.header.types_limit (types_of (told_entries (state_of before))) (types_of (journal_of s)) (types_of fresh)
-          t_saved s.types_saved types types' s.types to h.of_types t_owned (subst (λ b. KnowsBook IsFairType 0 s.header.types_limit b s.types s.types_saved (types_of (journal_of s))) same_told h.stored.left_by.kept.types)
-          (ap types_of h.stored.grown ∙ types_joined (told_entries (state_of before)) fresh) told_is t_apart (Contains view.texts.types) count is)
-      full WhichWords count is = if_told told _ (λ told_is.
-          full_given (needed_of view WhichWords) IsFairWord WORDS_FIRST told before.header.words_limit s.header.words_limit (words_of (told_entries (state_of before))) (words_of (journal_of s)) (words_of fresh)
-          w_saved s.words_saved words words' s.words wo h.of_words w_owned (subst (λ b. KnowsBook IsFairWord WORDS_FIRST s.header.words_limit b s.words s.words_saved (words_of (journal_of s))) same_told h.stored.left_by.kept.words)
-          (ap words_of h.stored.grown ∙ words_joined (told_entries (state_of before)) fresh) told_is w_apart (Contains view.texts.words) count is)
-
       these_types : KnowsBook IsFairType 0 s.header.types_limit told s.types s.types_saved (types_of (journal_of s))
       these_types = subst (λ b. KnowsBook IsFairType 0 s.header.types_limit b s.types s.types_saved (types_of (journal_of s))) same_told h.stored.left_by.kept.types
 
       these_words : KnowsBook IsFairWord WORDS_FIRST s.header.words_limit told s.words s.words_saved (words_of (journal_of s))
       these_words = subst (λ b. KnowsBook IsFairWord WORDS_FIRST s.header.words_limit b s.words s.words_saved (words_of (journal_of s))) same_told h.stored.left_by.kept.words
 
+      -- a book was full of texts of before and needed ones, and one more was met
+      full_types : told ≡ true → (next : List ℕ → Type 0) (count : ℕ) → WasFull next count (known_at types')
+          → (count ≡ before.header.types_limit) × IsFullBy (λ t. Contains (types_of (told_entries (state_of before))) t ⊎ needs WhichTypes t) next count
+      full_types told_is = full_given (needs WhichTypes) IsFairType 0 told before.header.types_limit s.header.types_limit (types_of (told_entries (state_of before))) (types_of (journal_of s)) (types_of fresh)
+          t_saved s.types_saved types types' s.types to h.of_types t_owned these_types (ap types_of h.stored.grown ∙ types_joined (told_entries (state_of before)) fresh) told_is t_apart
+
+      full_words : told ≡ true → (next : List ℕ → Type 0) (count : ℕ) → WasFull next count (known_at words')
+          → (count ≡ before.header.words_limit) × IsFullBy (λ t. Contains (words_of (told_entries (state_of before))) t ⊎ needs WhichWords t) next count
+      full_words told_is = full_given (needs WhichWords) IsFairWord WORDS_FIRST told before.header.words_limit s.header.words_limit (words_of (told_entries (state_of before))) (words_of (journal_of s)) (words_of fresh)
+          w_saved s.words_saved words words' s.words wo h.of_words w_owned these_words (ap words_of h.stored.grown ∙ words_joined (told_entries (state_of before)) fresh) told_is w_apart
+
+      full : (book : Which) (count : ℕ) → WasFull (Contains (old_texts view book)) count (book_of (books_at types' words') book) → IsFullByBoth needs view before book count
+      full WhichTypes count is = if_told told _ (λ told_is.
+          let grown = ap types_of h.stored.grown ∙ types_joined (told_entries (state_of before)) fresh in
+          let on = noted_behind (needs WhichTypes) IsFairType 0 told before.header.types_limit s.header.types_limit (types_of (told_entries (state_of before))) (types_of (journal_of s)) (types_of fresh)
+          t_saved s.types_saved types types' s.types to h.of_types t_owned these_types grown told_is (types_of (told_entries (state_of before))) is.front (types_of fresh, sym grown) is.begins in
+          full_types told_is (λ t. Contains view.texts.types t × IsNew (types_of (told_entries (state_of before))) t) count
+          (new_too (Contains view.texts.types) (types_of (told_entries (state_of before))) _ count (known_at types') is on
+          (few_texts told before.header.types_limit (types_of (told_entries (state_of before))) t_saved to.book to.has told_is t_low (full_types told_is (Contains view.texts.types) count is).0)))
+      full WhichWords count is = if_told told _ (λ told_is.
+          let grown = ap words_of h.stored.grown ∙ words_joined (told_entries (state_of before)) fresh in
+          let on = noted_behind (needs WhichWords) IsFairWord WORDS_FIRST told before.header.words_limit s.header.words_limit (words_of (told_entries (state_of before))) (words_of (journal_of s)) (words_of fresh)
+          w_saved s.words_saved words words' s.words wo h.of_words w_owned these_words grown told_is (words_of (told_entries (state_of before))) is.front (words_of fresh, sym grown) is.begins in
+          full_words told_is (λ t. Contains view.texts.words t × IsNew (words_of (told_entries (state_of before))) t) count
+          (new_too (Contains view.texts.words) (words_of (told_entries (state_of before))) _ count (known_at words') is on
+          (few_texts told before.header.words_limit (words_of (told_entries (state_of before))) w_saved wo.book wo.has told_is w_low (full_words told_is (Contains view.texts.words) count is).0)))
+
       after_is : told_entries (state_of after) ≡ journal_of s
       after_is = ap₂ (λ (x : D) n. journal_in (d.state x).seen n) (sym h.stored.left_by.disk) h.stored.left_by.count
 
       -- what had no room were rows and texts of the second archive
-      room : (file done end need : ℕ) → told ≡ true → LackedRoom (WereKnown (books_at types' words')) view first file done before after end need → LackedRoom (AreOfBoth view) view first file done before after end need
+      room : (file done end need : ℕ) → told ≡ true → LackedRoom (WereKnown (books_at types' words')) view first file done before after end need → LackedRoom (AreOfBoth needs) view first file done before after end need
       room file done end need told_is r =
           let since = r.between.0 in
           let on = subst (IsPrefix r.front) after_is r.between.1 in
@@ -208,9 +261,9 @@ module _ {D : Type 0} {d : DiskGhosts D} {G : Ghosts BookState (List ℕ) ℕ} (
           let more_types = drop (length before_types) r.types in let more_words = drop (length before_words) r.words in
           let grown_types = ap types_of h.stored.grown ∙ types_joined (told_entries (state_of before)) fresh in
           let grown_words = ap words_of h.stored.grown ∙ words_joined (told_entries (state_of before)) fresh in
-          let on_types = noted_behind (needed_of view WhichTypes) IsFairType 0 told before.header.types_limit s.header.types_limit (types_of (told_entries (state_of before))) (types_of (journal_of s)) (types_of fresh)
+          let on_types = noted_behind (needs WhichTypes) IsFairType 0 told before.header.types_limit s.header.types_limit (types_of (told_entries (state_of before))) (types_of (journal_of s)) (types_of fresh)
           t_saved s.types_saved types types' s.types to h.of_types t_owned these_types grown_types told_is before_types r.types (book_front WhichTypes r.front (journal_of s) on) r.has_types in
-          let on_words = noted_behind (needed_of view WhichWords) IsFairWord WORDS_FIRST told before.header.words_limit s.header.words_limit (words_of (told_entries (state_of before))) (words_of (journal_of s)) (words_of fresh)
+          let on_words = noted_behind (needs WhichWords) IsFairWord WORDS_FIRST told before.header.words_limit s.header.words_limit (words_of (told_entries (state_of before))) (words_of (journal_of s)) (words_of fresh)
           w_saved s.words_saved words words' s.words wo h.of_words w_owned these_words grown_words told_is before_words r.words (book_front WhichWords r.front (journal_of s) on) r.has_words in record {
             place = r.place;
             there = r.there;
@@ -219,10 +272,10 @@ module _ {D : Type 0} {d : DiskGhosts D} {G : Ghosts BookState (List ℕ) ℕ} (
             ends = r.ends;
             types = before_types ++ more_types;
             words = before_words ++ more_words;
-            has_types = texts_behind (needed_of view WhichTypes) IsFairType 0 told before.header.types_limit s.header.types_limit (types_of (told_entries (state_of before))) (types_of (journal_of s)) (types_of fresh)
+            has_types = texts_behind (needs WhichTypes) IsFairType 0 told before.header.types_limit s.header.types_limit (types_of (told_entries (state_of before))) (types_of (journal_of s)) (types_of fresh)
                 t_saved s.types_saved types types' s.types to h.of_types t_owned these_types grown_types told_is t_apart before_types r.types
                 (book_front WhichTypes (told_entries (state_of before)) r.front since) (book_front WhichTypes r.front (journal_of s) on) r.has_types;
-            has_words = texts_behind (needed_of view WhichWords) IsFairWord WORDS_FIRST told before.header.words_limit s.header.words_limit (words_of (told_entries (state_of before))) (words_of (journal_of s)) (words_of fresh)
+            has_words = texts_behind (needs WhichWords) IsFairWord WORDS_FIRST told before.header.words_limit s.header.words_limit (words_of (told_entries (state_of before))) (words_of (journal_of s)) (words_of fresh)
                 w_saved s.words_saved words words' s.words wo h.of_words w_owned these_words grown_words told_is w_apart before_words r.words
                 (book_front WhichWords (told_entries (state_of before)) r.front since) (book_front WhichWords r.front (journal_of s) on) r.has_words;
             segment = r.segment;

@@ -37,7 +37,7 @@ use Rattle.archive_merge.specs.Causes.{HasMoveCause}
 use Rattle.archive_merge.specs.Files.{AreCutAs, CameOver, IsCutAs, IsNewFile}
 use Rattle.archive_merge.specs.InHand.{IsEmpty, Texts, sum_in}
 use Rattle.archive_merge.specs.Next.{HoldsNext, part_of}
-use Rattle.archive_merge.specs.Runs.{HoldRun, SoFar, nothing_so_far, so_far_with, sum_of}
+use Rattle.archive_merge.specs.Runs.{HoldRun, IsReached, SoFar, nothing_so_far, so_far_with, sum_of}
 use Rattle.archive_merge.specs.Sealing.{MovesSegment, StandsBehind}
 use Rattle.archive_merge.specs.Taken.{Books}
 use Rattle.archive_merge.proofs.SealingLemmas.{canonical_long}
@@ -183,6 +183,19 @@ module _ {D : Type 0} (state : D → DiskState) (version : ℕ) (old : Texts) (p
             fair_types = fair_types;
             fair_words = fair_words;
           }
+
+      -- the next segment is reached by the messages that are there
+      pub next_reached : IsReached version old places told file.messages place
+      next_reached = record {
+        there = contains_place places k place within place_is;
+        within = λ bytes all told_is run. let adds = (next_run bytes all told_is run).3 in let first = adds.first in let count = way.count in omega (arith, first, count);
+      }
+
+      -- and by those with its own
+      pub moved_reached : (q : KeeperPass D) (hand_new : Hand) (messages : ℕ) → MovesSegment state version old place told hand hand_new p q → messages ≡ hand_new.draft.first → file.messages ≤ messages
+      moved_reached q hand_new messages moved count =
+          let stands = moved.goes way.covered way.stands in
+          omega (arith, way.count, count, stands.first, length-append way.covered moved.messages)
 
       pub way_moves : (q : KeeperPass D) (file_new : Merged) (hand_new : Hand) → MovesSegment state version old place told hand hand_new p q → file_new.file ≡ file.file → file_new.messages ≡ hand_new.draft.first → file_new.whole ≡ hand_new.draft.last
           → FileUnderWay (k + 1) q file_new hand_new

@@ -1,5 +1,5 @@
 -- What one file more makes of what moves them.
-use Rattle.std.proofs.Common.{◌≡◌, ℕ, ◌≤◌, ◌-◌, List, sym, ap, ◌∙◌, subst, Option, None, Some, refl}
+use Rattle.std.proofs.Common.{◌≡◌, ℕ, ◌≤◌, ◌-◌, arith, List, [], ◌∷◌, sym, ap, ◌∙◌, subst, Option, None, Some, refl}
 use Rattle.std.specs.Prelude.{All, Err, IfErr, IsErrOf, Ok, Result, false, is_none, is_ok, is_some, true}
 use Rattle.log_seams.specs.Disk.{DiskState}
 use Rattle.log_seams.specs.Outside.{CountsOf}
@@ -20,9 +20,9 @@ use Rattle.archive_merge.specs.declared.merger.Stopped.{Stopped}
 use Rattle.archive_merge.specs.Causes.{HasMoveCause}
 use Rattle.archive_merge.specs.Files.{CameOver}
 use Rattle.archive_merge.specs.Needed.{IsNeeded}
-use Rattle.archive_merge.specs.Runs.{HoldRun, SoFar, nothing_so_far}
+use Rattle.archive_merge.specs.Runs.{HoldRun, IsReached, SoFar, nothing_so_far}
 use Rattle.archive_merge.specs.Taken.{Serves, texts_by}
-use Rattle.archive_merge.specs.Merger.{DidFile, GoesWith, IsIdle, IsOneOf, IsStopFor, MayName, MovesOn, PassesAdd, StaysRead, books_of, file_at, needed_in, passes_of}
+use Rattle.archive_merge.specs.Merger.{DidFile, GoesWith, IsIdle, IsOneOf, IsReachedOf, IsStopFor, MayName, MovesOn, PassesAdd, StaysRead, books_of, file_at, needed_in, passes_of}
 use Rattle.archive_merge.specs.MergerLaws.{passes_in_is, passes_wider}
 
 pub none_some : {A : Type 0} (o : Option A) → is_some o ≡ false → o ≡ None
@@ -51,21 +51,43 @@ module _ {M E D : Type 0} {G : NamesGhosts M} {H : DiskGhosts E} (types words : 
         (subst (λ x. Serves (version w.second.names.now) (texts_by types words w.second.names.now) (books_of x) v.second.taker) (sym after_is) goes.serves);
   }
 
+  -- what was named for the file is what rows of it need that were reached
+  pub adds_one : (places : List SegmentPlace) → ((place : SegmentPlace) → Contains places place → Contains w.second.segments.now place)
+      → (IsNonDecreasingBy file_at w.second.segments.now → places ≡ filter (is_of (j.file - w.first)) w.second.segments.now) → j'.file ≡ j.file
+      → PassesAdd (IsNeeded (texts_by types words w.second.names.now) (state_second w.second.disk.now).seen (IsReached (version w.second.names.now) (texts_by types words w.second.names.now) places (state_second w.second.disk.now).seen j'.messages)) b c
+      → PassesAdd (needed_in types words version state_second w (j' ∷ [])) (passes_of w) (passes_of v)
+  adds_one places among are file adds = subst (λ x. PassesAdd (needed_in types words version state_second w (j' ∷ [])) x (passes_of v)) (sym before_is)
+      (subst (λ x. PassesAdd (needed_in types words version state_second w (j' ∷ [])) b x) (sym after_is)
+      (passes_wider (IsNeeded (texts_by types words w.second.names.now) (state_second w.second.disk.now).seen (IsReached (version w.second.names.now) (texts_by types words w.second.names.now) places (state_second w.second.disk.now).seen j'.messages))
+      (needed_in types words version state_second w (j' ∷ [])) (λ book t (place, r, is). (place, of_file place r, is)) b c adds))
+    where
+      of_file : (place : SegmentPlace) → IsReached (version w.second.names.now) (texts_by types words w.second.names.now) places (state_second w.second.disk.now).seen j'.messages place
+          → IsReachedOf (version w.second.names.now) (texts_by types words w.second.names.now) (state_second w.second.disk.now).seen w.second.segments.now w.first 1 (j' ∷ []) place
+      of_file place r = record {
+        number = 0;
+        file = j';
+        is = refl;
+        upto = omega arith;
+        there = among place r.there;
+        reached = λ sorted. subst (λ n. IsReached (version w.second.names.now) (texts_by types words w.second.names.now) (filter (is_of (n - w.first)) w.second.segments.now) (state_second w.second.disk.now).seen j'.messages place) (sym file)
+            (subst (λ l. IsReached (version w.second.names.now) (texts_by types words w.second.names.now) l (state_second w.second.disk.now).seen j'.messages place) (are sorted) r);
+      }
+
   pub moves_on : v.first ≡ w.first → (state_second w.second.disk.now).faults ≤ (state_second v.second.disk.now).faults
-      → (places : List SegmentPlace) → ((place : SegmentPlace) → Contains places place → Contains w.second.segments.now place) → PassesAdd (IsNeeded (texts_by types words w.second.names.now) (state_second w.second.disk.now).seen places) b c → w.stop ≡ None
-      → (js js' : List Merged) → ((s : Stopped) → v.stop ≡ Some s → IsOneOf js s) → MovesOn types words version state_second js js' w v
-  moves_on first later places among adds none js js' stopped = record {
+      → PassesAdd (needed_in types words version state_second w (j' ∷ [])) (passes_of w) (passes_of v) → w.stop ≡ None
+      → ((s : Stopped) → v.stop ≡ Some s → IsOneOf (j ∷ []) s) → MovesOn types words version state_second (j ∷ []) (j' ∷ []) w v
+  moves_on first later adds none stopped = record {
     first_is = first;
     second_is = stays;
     later = later;
-    adds = subst (λ x. PassesAdd (needed_in types words version state_second w) x (passes_of v)) (sym before_is)
-        (subst (λ x. PassesAdd (needed_in types words version state_second w) b x) (sym after_is)
-        (passes_wider (IsNeeded (texts_by types words w.second.names.now) (state_second w.second.disk.now).seen places) (needed_in types words version state_second w) (λ book t (place, there, is). (place, among place there, is)) b c adds));
+    adds = adds;
     stop_is = λ some. absurd (some none);
+    passes_are = λ some. absurd (some none);
     stopped_by = λ was s is. stopped s is;
   }
 
-  module _ (places : List SegmentPlace) (are : IsNonDecreasingBy file_at w.second.segments.now → places ≡ filter (is_of (j.file - w.first)) w.second.segments.now) (none : w.stop ≡ None) where
+  module _ (places : List SegmentPlace) (are : IsNonDecreasingBy file_at w.second.segments.now → places ≡ filter (is_of (j.file - w.first)) w.second.segments.now) (none : w.stop ≡ None)
+      (adds : PassesAdd (needed_in types words version state_second w (j' ∷ [])) (passes_of w) (passes_of v)) where
     -- the file was moved
     pub did_all : v.stop ≡ None → CameOver state (version w.second.names.now) (texts_by types words w.second.names.now) places (state_second w.second.disk.now).seen true k k' j j'
         → DidFile types words version state state_second w j k v j' k'
@@ -74,6 +96,7 @@ module _ {M E D : Type 0} {G : NamesGhosts M} {H : DiskGhosts E} (types words : 
       moved = λ was. record {
         places = places;
         are = are;
+        adds = adds;
         came = subst (λ t. CameOver state (version w.second.names.now) (texts_by types words w.second.names.now) places (state_second w.second.disk.now).seen t k k' j j') (sym (ap is_none still)) came;
         stopped = λ s is. absurd (cc (still, is));
       };
@@ -92,6 +115,7 @@ module _ {M E D : Type 0} {G : NamesGhosts M} {H : DiskGhosts E} (types words : 
       moved = λ was. record {
         places = places;
         are = are;
+        adds = adds;
         came = subst (λ t. CameOver state (version w.second.names.now) (texts_by types words w.second.names.now) places (state_second w.second.disk.now).seen t k k' j j') not_ok came;
         stopped = λ t at. subst (λ x. IsStopFor types words version state state_second w j k v j' k' places x) (only t at) here;
       };

@@ -6,6 +6,7 @@ use Rattle.std.proofs.lemmas.List.{length-append, length-take-le}
 use Rattle.std.proofs.lemmas.List.Elements.{All-cons, All-head, All-nil, All-tail, All-weaker, filter_map-append}
 use Rattle.std.proofs.lemmas.Option.{slice_get_within}
 use mathlib.Core.List.{IsPrefix}
+use Rattle.plain_list.specs.Texts.{IsNew}
 use Rattle.log_seams.specs.Disk.{DiskState, IsLawful, Rests}
 use Rattle.log_seams.specs.declared.disk.Disk.{Ghosts as DiskGhosts}
 use Rattle.log_seams.specs.Outside.{Rose}
@@ -47,7 +48,7 @@ use Rattle.archive_merge.specs.declared.merger.Second.{Second}
 use Rattle.archive_merge.specs.declared.merger.Stopped.{Stopped}
 use Rattle.archive_merge.specs.declared.refusal.MergeRefusal.{MergeRefusal}
 use Rattle.archive_merge.specs.declared.refusal.MergeRefusal.TheVariants.{LongName, Names, OutOfMemory, Stopped as StoppedAt}
-use Rattle.archive_merge.specs.Behind.{AreOfBoth, HasMerged, HasRun, HasStopCause, IsFullByBoth, IsMovedFile, IsNewIn, IsDone, IsOfFiles, LackedRoom, MayBegin, OnlyRead, SecondView, needed_of, old_texts, places_for}
+use Rattle.archive_merge.specs.Behind.{AreOfBoth, HasMerged, HasRun, HasStopCause, HasStopped, IsFullByBoth, IsMovedFile, IsNewIn, IsDone, IsOfFiles, LackedRoom, MayBegin, OnlyRead, SecondView, done_of, needed_of, old_texts, places_for}
 use Rattle.name_records.specs.Left.{HasGoneOn, LeavesEntries, StandsForOr}
 use Rattle.archive_merge.specs.Files.{AreCutAs}
 use Rattle.archive_merge.specs.Merging.{EndsMerge, HasMergeCause, IsMergedFile, WasOnlyRead, done_by}
@@ -219,8 +220,8 @@ module _ {D : Type 0} {d : DiskGhosts D} (lawful : (x : D) → IsLawful (d.state
       named = refl;
       fresh = [];
       others = All-nil (IsOfFiles []);
-      types = All-nil (needed_of s WhichTypes);
-      words = All-nil (needed_of s WhichWords);
+      types = All-nil (needed_of s first (done_by first 0 refusal) [] WhichTypes);
+      words = All-nil (needed_of s first (done_by first 0 refusal) [] WhichWords);
       each = λ i file at. absurd (cc (at));
       left = by_told (is_some (state_of j).disk.seen) (λ told.
           subst (λ es. LeavesEntries j.header (told_entries (state_of j)) es (state_of j).disk (state_of j).disk) (sym (append-nil (told_entries (state_of j)))) (same_left told));
@@ -248,8 +249,8 @@ module _ {D : Type 0} {d : DiskGhosts D} (lawful : (x : D) → IsLawful (d.state
         named = are.are;
         fresh = [];
         others = All-nil (IsOfFiles files);
-        types = All-nil (needed_of s WhichTypes);
-        words = All-nil (needed_of s WhichWords);
+        types = All-nil (needed_of s first 0 files WhichTypes);
+        words = All-nil (needed_of s first 0 files WhichWords);
         each = λ i file at. not_moved s i (state_of before) are.naming (take (length files) names) file are.are (fresh i file at).messages_none (fresh i file at).not_whole
             (subst (λ es. IfTold (is_some (state_of before).disk.seen) (FrontHolds before.header (told_entries (state_of before) ++ es) file.file [] false false)) (sym (append-nil are.naming)) (empty i file at));
         left = subst (λ es. IfTold (is_some (state_of before).disk.seen) (LeavesEntries before.header (told_entries (state_of before)) (told_entries (state_of before) ++ es) (state_of before).disk (state_of mid).disk)) (sym (append-nil are.naming)) are.left;
@@ -345,8 +346,8 @@ module _ {D : Type 0} {d : DiskGhosts D} (lawful : (x : D) → IsLawful (d.state
           named = are.are;
           fresh = [];
           others = All-nil (IsOfFiles files);
-          types = All-nil (needed_of s WhichTypes);
-          words = All-nil (needed_of s WhichWords);
+          types = All-nil (needed_of s first 0 files WhichTypes);
+          words = All-nil (needed_of s first 0 files WhichWords);
           each = λ i file at.
               let new = named_holds first some are.naming (state_of before) (state_of mid) may holds has i (omega (arith, counted_names, slice_get_within files i file at)) in
               not_moved s i (state_of before) are.naming some file are.are (fresh_files i file at).messages_none (fresh_files i file at).not_whole
@@ -460,59 +461,64 @@ module _ {D : Type 0} {d : DiskGhosts D} (lawful : (x : D) → IsLawful (d.state
             let is = moved.stored.each of.0 of.1 of.2 in
             (of.0, is.0, is.1, is.2.file ∙ of.3)
 
-        full_on : (book : Which) (count : ℕ) → IsFullByBoth s mid book count → IsFullByBoth s before book count
-        full_on book count full = by_told (is_some (state_of before).disk.seen) (λ told.
-            subst (λ texts. (count ≡ limit_of (header_limits before.header) book) × IsFullBy (λ t. Contains texts t ⊎ needed_of s book t) (Contains (old_texts s book)) count) (texts_same book (told_entries (state_of before)) are.naming some are.are)
-            (subst (λ es. (count ≡ limit_of (header_limits before.header) book) × IsFullBy (λ t. Contains (book_texts book es) t ⊎ needed_of s book t) (Contains (old_texts s book)) count) (of_told (is_some (state_of before).disk.seen) told has.entries)
-            (subst (λ h. (count ≡ limit_of (header_limits h) book) × IsFullBy (λ t. Contains (book_texts book (told_entries (state_of mid))) t ⊎ needed_of s book t) (Contains (old_texts s book)) count) has.header
-            (of_told (is_some (state_of mid).disk.seen) (has.tells ∙ told) full))))
+        module _ (needs : Which → List ℕ → Type 0) where
+          full_on : (book : Which) (count : ℕ) → IsFullByBoth needs s mid book count → IsFullByBoth needs s before book count
+          full_on book count full = by_told (is_some (state_of before).disk.seen) (λ told.
+              subst (λ texts. (count ≡ limit_of (header_limits before.header) book) × IsFullBy (λ t. Contains texts t ⊎ needs book t) (λ t. Contains (old_texts s book) t × IsNew texts t) count) (texts_same book (told_entries (state_of before)) are.naming some are.are)
+              (subst (λ es. (count ≡ limit_of (header_limits before.header) book) × IsFullBy (λ t. Contains (book_texts book es) t ⊎ needs book t) (λ t. Contains (old_texts s book) t × IsNew (book_texts book es) t) count) (of_told (is_some (state_of before).disk.seen) told has.entries)
+              (subst (λ h. (count ≡ limit_of (header_limits h) book) × IsFullBy (λ t. Contains (book_texts book (told_entries (state_of mid))) t ⊎ needs book t) (λ t. Contains (old_texts s book) t × IsNew (book_texts book (told_entries (state_of mid))) t) count) has.header
+              (of_told (is_some (state_of mid).disk.seen) (has.tells ∙ told) full))))
 
-        room_on : (file done end need : ℕ) → LackedRoom (AreOfBoth s) s first file done mid after end need → is_some (state_of before).disk.seen ≡ true → LackedRoom (AreOfBoth s) s first file done before after end need
-        room_on file done end need lacked told = record {
-          place = lacked.place;
-          there = lacked.there;
-          front = lacked.front;
-          between = (prefix_on (told_entries (state_of before)) (told_entries (state_of mid)) lacked.front (are.naming, sym (of_told (is_some (state_of before).disk.seen) told has.entries)) lacked.between.0, lacked.between.1);
-          ends = subst (λ h. end ≡ end_of h lacked.front) has.header lacked.ends;
-          types = lacked.types;
-          words = lacked.words;
-          has_types = lacked.has_types;
-          has_words = lacked.has_words;
-          segment = lacked.segment;
-          numbers = lacked.numbers;
-          file_is = lacked.file_is;
-          next = lacked.next;
-          at = lacked.at;
-          marks = lacked.marks;
-          rows = lacked.rows;
-          rows_are = lacked.rows_are;
-          messages = lacked.messages;
-          source = lacked.source;
-          canonical = lacked.canonical;
-          numbers_are = lacked.numbers_are;
-          needs = lacked.needs;
-        }
+          room_on : (file done end need : ℕ) → LackedRoom (AreOfBoth needs) s first file done mid after end need → is_some (state_of before).disk.seen ≡ true → LackedRoom (AreOfBoth needs) s first file done before after end need
+          room_on file done end need lacked told = record {
+            place = lacked.place;
+            there = lacked.there;
+            front = lacked.front;
+            between = (prefix_on (told_entries (state_of before)) (told_entries (state_of mid)) lacked.front (are.naming, sym (of_told (is_some (state_of before).disk.seen) told has.entries)) lacked.between.0, lacked.between.1);
+            ends = subst (λ h. end ≡ end_of h lacked.front) has.header lacked.ends;
+            types = lacked.types;
+            words = lacked.words;
+            has_types = lacked.has_types;
+            has_words = lacked.has_words;
+            segment = lacked.segment;
+            numbers = lacked.numbers;
+            file_is = lacked.file_is;
+            next = lacked.next;
+            at = lacked.at;
+            marks = lacked.marks;
+            rows = lacked.rows;
+            rows_are = lacked.rows_are;
+            messages = lacked.messages;
+            source = lacked.source;
+            canonical = lacked.canonical;
+            numbers_are = lacked.numbers_are;
+            needs = lacked.needs;
+          }
 
-        cause_on : (file done : ℕ) (cause : MergeCause) → HasStopCause (IsFullByBoth s mid) (AreOfBoth s) s first file done mid after cause → HasStopCause (IsFullByBoth s before) (AreOfBoth s) s first file done before after cause
-        cause_on file done (Full book count) is = full_on book count is
-        cause_on file done (ArchiveFull end need) is = (
-          subst (λ h. h.length_limit < end + need) has.header is.0,
-          by_told (is_some (state_of before).disk.seen) (λ told. room_on file done end need (of_told (is_some (state_of mid).disk.seen) (has.tells ∙ told) is.1) told),
-        )
-        cause_on file done (FirstFault opened now) is = (is.0 ∙ has.steady, is.1, is.2)
-        cause_on file done SecondDamaged is = is
-        cause_on file done SecondFault is = is
-        cause_on file done CauseOutOfMemory is = is
+          cause_on : (file done : ℕ) (cause : MergeCause) → HasStopCause (IsFullByBoth needs s mid) (AreOfBoth needs) s first file done mid after cause → HasStopCause (IsFullByBoth needs s before) (AreOfBoth needs) s first file done before after cause
+          cause_on file done (Full book count) is = full_on book count is
+          cause_on file done (ArchiveFull end need) is = (
+            subst (λ h. h.length_limit < end + need) has.header is.0,
+            by_told (is_some (state_of before).disk.seen) (λ told. room_on file done end need (of_told (is_some (state_of mid).disk.seen) (has.tells ∙ told) is.1) told),
+          )
+          cause_on file done (FirstFault opened now) is = (is.0 ∙ has.steady, is.1, is.2)
+          cause_on file done SecondDamaged is = is
+          cause_on file done SecondFault is = is
+          cause_on file done CauseOutOfMemory is = is
+
+        done_same : (o : Option Stopped) (refusal : Option MergeRefusal) → refusal ≡ refusal_by o → done_of first (length files') o ≡ done_by first (length files') refusal
+        done_same None refusal same = sym (ap (done_by first (length files')) same)
+        done_same (Some why) refusal same = sym (ap (done_by first (length files')) same)
 
         stopped_on : (why : Stopped) → stop ≡ Some why → HasMergeCause s first names files' before after (StoppedAt why.file why.cause)
         stopped_on why is =
-            let stopped = moved.why why is in record {
+            let stopped = subst (λ o. HasStopped (IsFullByBoth (needed_of s first (done_of first (length files') o) files') s mid) (AreOfBoth (needed_of s first (done_of first (length files') o) files')) s first files' mid after why) is (moved.why why is) in record {
               place = stopped.place;
               file = stopped.file;
               is = stopped.is;
               file_is = stopped.file_is;
               not_done = stopped.not_done;
-              cause = cause_on stopped.file.file stopped.file.messages why.cause stopped.cause;
+              cause = cause_on (needed_of s first (why.file - first) files') stopped.file.file stopped.file.messages why.cause stopped.cause;
             }
 
         pub all_moved : (refusal : Option MergeRefusal) → refusal ≡ refusal_by stop → EndsMerge s first names files' refusal before after
@@ -526,8 +532,8 @@ module _ {D : Type 0} {d : DiskGhosts D} (lawful : (x : D) → IsLawful (d.state
             named = subst (λ n. AreNamesOf are.naming (take n names)) (sym moved.stored.counted) are.are;
             fresh = fresh;
             others = All-weaker (IsOfFiles files) (IsOfFiles files') of_files fresh moved.stored.others;
-            types = moved.types;
-            words = moved.words;
+            types = subst (λ n. All (needed_of s first n files' WhichTypes) (types_of fresh)) (done_same stop refusal same) moved.types;
+            words = subst (λ n. All (needed_of s first n files' WhichWords) (words_of fresh)) (done_same stop refusal same) moved.words;
             each = merged_file refusal same;
             left = left_behind first some are.naming (state_of before) (state_of mid) has (state_of after) fresh (store_goes mid after moved.store moved.stored.left_by)
                 (by_told (is_some (state_of mid).disk.seen) (λ told. store_left mid after (lawful after.disk.now) moved.store moved.stored.left_by told fresh moved.stored.grown));

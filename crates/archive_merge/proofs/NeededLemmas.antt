@@ -1,10 +1,8 @@
 -- Texts that rows of an archive need, in its journal.
-use Rattle.std.proofs.Common.{◌≡◌, ◌+◌, refl, sym, ap, subst, ◌∙◌, ℕ, zero, suc, Bool, true, cond, List, [], ◌∷◌, ◌++◌, arith, drop, get_or, map, take}
+use Rattle.std.proofs.Common.{◌≡◌, ◌≤◌, ◌+◌, ◌-◌, refl, sym, ap, subst, ℕ, zero, suc, List, [], ◌∷◌, arith, map}
 use Rattle.std.specs.Prelude.{Some, slice_get}
 use Rattle.std.specs.List.{AllZip, Contains, filter, filter_map, flat_map}
-use Rattle.std.proofs.lemmas.Bool.{eq-eqb}
-use Rattle.std.proofs.lemmas.List.{take-append-drop}
-use Rattle.std.proofs.lemmas.List.Elements.{Contains-append_left, Contains-append_right, filter-append, filter_more}
+use Rattle.std.proofs.lemmas.List.Elements.{Contains-append_left, Contains-append_right}
 use Rattle.record_format.specs.declared.header.Header.{Header}
 use Rattle.column_store.specs.declared.row.Row.{Row}
 use Rattle.row_codec.specs.declared.namer.Which.{Which}
@@ -19,7 +17,9 @@ use Rattle.archive_open.specs.Shown.{IsArchiveOf, Shown}
 use Rattle.archive_decode.specs.StepsHeld.{is_of}
 use Rattle.ingest_meaning.specs.Parts.{in_file}
 use Rattle.archive_merge.specs.Behind.{needed_of}
-use Rattle.archive_merge.specs.Laws.{IsSegmentAt, SegmentsAreTheirs, view_in}
+use Rattle.archive_merge.specs.Laws.{FilesAreRuns, IsSegmentAt, SegmentsAreTheirs, texts_kept, view_in}
+use Rattle.archive_merge.specs.Runs.{IsReached, held_of}
+use Rattle.archive_merge.specs.declared.file.Merged.{Merged}
 
 -- ---- among lists made of others
 
@@ -44,42 +44,49 @@ contains_flat f [] x y (k, within, is) there = absurd (omega (arith, within))
 contains_flat f (z ∷ xs) x y (zero, within, is) there = Contains-append_left (f z) (flat_map f xs) y (subst (λ w. Contains (f w) y) (sym is) there)
 contains_flat f (z ∷ xs) x y (suc k, within, is) there = Contains-append_right (f z) (flat_map f xs) y (contains_flat f xs x y (k, omega (arith, within), is) there)
 
-contains_filter : {A : Type 0} (p : A → Bool) (xs : List A) (x : A) → p x ≡ true → Contains xs x → Contains (filter p xs) x
-contains_filter p xs x pass (k, within, is) =
-    let here : cond (p (get_or xs k x)) (get_or xs k x ∷ []) [] ≡ x ∷ [] = ap (λ y. cond (p y) (y ∷ []) []) is ∙ ap (λ b. cond b (x ∷ []) []) pass in
-    let front : filter p (take (k + 1) xs) ≡ filter p (take k xs) ++ x ∷ [] = filter_more p xs k x within ∙ ap (λ l. filter p (take k xs) ++ l) here in
-    let all : filter p (take (k + 1) xs) ++ filter p (drop (k + 1) xs) ≡ filter p xs = sym (filter-append p (take (k + 1) xs) (drop (k + 1) xs)) ∙ ap (filter p) (take-append-drop (k + 1) xs) in
-    subst (λ l. Contains l x) all (Contains-append_left (filter p (take (k + 1) xs)) (filter p (drop (k + 1) xs)) x
-    (subst (λ l. Contains l x) (sym front) (Contains-append_right (filter p (take k xs)) (x ∷ []) x (0, omega arith, refl))))
-
 -- ---- in the journal
 
-module _ (theirs : SegmentsAreTheirs) (b : Shown) (bytes : List ℕ) (g : Header) (es : List JournalEntry) (stood : StandsFor bytes g es) (shown : IsArchiveOf b g es stood.legal.held) where
+module _ (runs : FilesAreRuns) (theirs : SegmentsAreTheirs) (b : Shown) (bytes : List ℕ) (g : Header) (es : List JournalEntry) (stood : StandsFor bytes g es) (shown : IsArchiveOf b g es stood.legal.held)
+    (first done : ℕ) (files : List Merged) (numbers : (i : ℕ) (x : Merged) → slice_get files i ≡ Some x → x.file ≡ first + i) where
+  -- a segment of the journal that was reached has a row of such a kind
+  abbrev ThereIs : (SegmentEntry → Type 0) → Type 0
+  ThereIs P = (file : ℕ) × (x : Merged) × (slice_get files file ≡ Some x) × (file ≤ done) × (s : SegmentEntry) × Contains (filter_map (in_file file) es) s × (s.first ≤ x.messages) × P s
+
   -- a segment of the journal has the row that needs the text
-  in_segment : (book : Which) (text : List ℕ) → needed_of (view_in bytes b) book text
-      → (file : ℕ) × (s : SegmentEntry) × Contains (filter_map (in_file file) es) s × (row : Row) × Contains s.rows row × IsTextOfRow stood.legal.held.types stood.legal.held.words row book text
-  in_segment book text (place, in_places, is) =
-      let file = place.head.file in
-      let here = contains_filter (is_of file) b.segments place (eq-eqb file file refl) in_places in
-      let own = zip_contains (IsSegmentAt bytes) (filter (is_of file) b.segments) (filter_map (in_file file) es) place (theirs bytes g es b file stood shown) here in (
+  in_segment : (book : Which) (text : List ℕ) → needed_of (view_in bytes b) first done files book text
+      → ThereIs (λ (s : SegmentEntry). (row : Row) × Contains s.rows row × IsTextOfRow stood.legal.held.types stood.legal.held.words row book text)
+  in_segment book text (place, r, is) =
+      let file = r.number in
+      let run = runs bytes g es b file stood shown in
+      let number : r.file.file - first ≡ file = (let at = numbers r.number r.file r.is in omega (arith, at)) in
+      let reached = subst (λ n. IsReached b.kept.version (texts_kept b.kept) (filter (is_of n) b.segments) (Some bytes) r.file.messages place) number (r.reached run.sorted) in
+      let own = zip_contains (IsSegmentAt bytes) (filter (is_of file) b.segments) (filter_map (in_file file) es) place (theirs bytes g es b file stood shown) reached.there in
+      let within = reached.within run.bytes (held_of file stood.legal.held) run.told_is run.run in
+      let same = own.2.first in (
         file,
+        r.file,
+        r.is,
+        r.upto,
         own.0,
         own.1,
-        is.row,
-        is.there bytes own.0.rows refl own.2.holds,
-        subst (λ ts. IsTextOfRow ts stood.legal.held.words is.row book text) (ap (λ (k : Kept). k.types) shown.kept)
-            (subst (λ ts. IsTextOfRow b.kept.types ts is.row book text) (ap (λ (k : Kept). k.words) shown.kept) is.needs),
+        omega (arith, within, same),
+        (
+          is.row,
+          is.there bytes own.0.rows refl own.2.holds,
+          subst (λ ts. IsTextOfRow ts stood.legal.held.words is.row book text) (ap (λ (k : Kept). k.types) shown.kept)
+              (subst (λ ts. IsTextOfRow b.kept.types ts is.row book text) (ap (λ (k : Kept). k.words) shown.kept) is.needs),
+        ),
       )
 
   -- one of its rows has the number of the log type, or of the word
-  pub needed_type : (text : List ℕ) → needed_of (view_in bytes b) Types text
-      → (file : ℕ) × (s : SegmentEntry) × Contains (filter_map (in_file file) es) s × (number : ℕ) × Contains (map (λ (r : Row). r.log_type) s.rows) number × (slice_get stood.legal.held.types number ≡ Some text)
+  pub needed_type : (text : List ℕ) → needed_of (view_in bytes b) first done files Types text
+      → ThereIs (λ (s : SegmentEntry). (number : ℕ) × Contains (map (λ (r : Row). r.log_type) s.rows) number × (slice_get stood.legal.held.types number ≡ Some text))
   needed_type text needs =
-      let (file, s, there, row, among, at) = in_segment Types text needs in
-      (file, s, there, row.log_type, contains_map (λ (r : Row). r.log_type) s.rows row among, at)
+      let (file, x, told, upto, s, there, within, (row, among, at)) = in_segment Types text needs in
+      (file, x, told, upto, s, there, within, (row.log_type, contains_map (λ (r : Row). r.log_type) s.rows row among, at))
 
-  pub needed_word : (text : List ℕ) → needed_of (view_in bytes b) Words text
-      → (file : ℕ) × (s : SegmentEntry) × Contains (filter_map (in_file file) es) s × (number : ℕ) × Contains (flat_map (numbers_of_row stood.legal.held.types) s.rows) number × (slice_get stood.legal.held.words number ≡ Some text)
+  pub needed_word : (text : List ℕ) → needed_of (view_in bytes b) first done files Words text
+      → ThereIs (λ (s : SegmentEntry). (number : ℕ) × Contains (flat_map (numbers_of_row stood.legal.held.types) s.rows) number × (slice_get stood.legal.held.words number ≡ Some text))
   needed_word text needs =
-      let (file, s, there, row, among, (number, numbered, at)) = in_segment Words text needs in
-      (file, s, there, number, contains_flat (numbers_of_row stood.legal.held.types) s.rows row number among numbered, at)
+      let (file, x, told, upto, s, there, within, (row, among, (number, numbered, at))) = in_segment Words text needs in
+      (file, x, told, upto, s, there, within, (number, contains_flat (numbers_of_row stood.legal.held.types) s.rows row number among numbered, at))

@@ -1,5 +1,5 @@
 -- What is in hand becomes the next segment.
-use Rattle.std.proofs.Common.{◌≡◌, ℕ, ◌<◌, ◌^◌, List, [], ◌∷◌, ◌++◌, All, arith, refl, suc, sym, ap, ◌∙◌, subst, length, length-append}
+use Rattle.std.proofs.Common.{◌≡◌, ℕ, ◌<◌, ◌≤◌, ◌^◌, List, [], ◌∷◌, ◌++◌, All, arith, refl, suc, sym, ap, ◌∙◌, subst, length, length-append}
 use Rattle.std.specs.Prelude.{◌&&◌, Err, IfErr, Ok, Option, Result, false, is_some}
 use Rattle.std.specs.List.{Contains, flat_map}
 use Rattle.log_seams.specs.Disk.{DiskState}
@@ -52,6 +52,7 @@ use Rattle.archive_merge.specs.declared.taker.Taker.{Taker}
 use Rattle.archive_merge.specs.Causes.{HasMoveCause, HasNoRoomNow, IsOfSealing, cause_by, cause_of_sealing}
 use Rattle.archive_merge.specs.InHand.{HasInHand, Texts}
 use Rattle.archive_merge.specs.Needed.{IsNeeded, IsTextThere}
+use Rattle.archive_merge.specs.Runs.{IsReached}
 use Rattle.archive_merge.specs.Next.{TakesNext}
 use Rattle.archive_merge.specs.PassLaws.{adds_none, adds_then, adds_wider, goes_self, goes_then, owns_none, owns_then}
 use Rattle.archive_merge.specs.Sealing.{AddsTexts, IsEmptied, LacksRoom, MaySeal, MovesSegment, StandsBehind, books_in, texts_seen}
@@ -74,6 +75,15 @@ continues_then p q r one two = record {
   goes = goes_then p q r one.goes two.goes;
   own = owns_then p q r (prefix_length (seen p) (seen q) one.goes.seen_on) one.own two.own;
 }
+
+-- what is reached by some messages is reached by more
+reached_more : (version : ℕ) (old : Texts) (places : List SegmentPlace) (told : Option (List ℕ)) (done more : ℕ) → done ≤ more → (book : Which) (t : List ℕ)
+    → IsNeeded old told (IsReached version old places told done) book t → IsNeeded old told (IsReached version old places told more) book t
+reached_more version old places told done more le book t (place, reached, is) = (
+  place,
+  record { there = reached.there; within = λ bytes all told_is run. let low = reached.within bytes all told_is run in omega (arith, low, le) },
+  is,
+)
 
 module _ {R A B C : Type 0} where
   -- both passes go on
@@ -140,12 +150,19 @@ module _ {R A B C : Type 0} where
     words = adds_then (P Words) (words_pass a) (words_pass b) (words_pass c) one.words two.words;
   }
 
-  -- what was named for a segment was named for one at these places
-  pub adds_at : (old : Texts) (told told_now : Option (List ℕ)) (places : List SegmentPlace) (place : SegmentPlace) (m n : LockNamer R A B C) → told_now ≡ told → Contains places place
-      → AddsTexts (IsTextThere old told_now place) m n → AddsTexts (IsNeeded old told places) m n
-  adds_at old told told_now places place m n same in_places adds = record {
-    types = adds_wider (IsTextThere old told_now place Types) (IsNeeded old told places Types) (λ t there. (place, in_places, subst (λ o. IsTextThere old o place Types t) same there)) (types_pass m) (types_pass n) adds.types;
-    words = adds_wider (IsTextThere old told_now place Words) (IsNeeded old told places Words) (λ t there. (place, in_places, subst (λ o. IsTextThere old o place Words t) same there)) (words_pass m) (words_pass n) adds.words;
+  -- what was named for a segment was named for one at such places
+  pub adds_at : (old : Texts) (told told_now : Option (List ℕ)) (among : SegmentPlace → Type 0) (place : SegmentPlace) (m n : LockNamer R A B C) → told_now ≡ told → among place
+      → AddsTexts (IsTextThere old told_now place) m n → AddsTexts (IsNeeded old told among) m n
+  adds_at old told told_now among place m n same is_one adds = record {
+    types = adds_wider (IsTextThere old told_now place Types) (IsNeeded old told among Types) (λ t there. (place, is_one, subst (λ o. IsTextThere old o place Types t) same there)) (types_pass m) (types_pass n) adds.types;
+    words = adds_wider (IsTextThere old told_now place Words) (IsNeeded old told among Words) (λ t there. (place, is_one, subst (λ o. IsTextThere old o place Words t) same there)) (words_pass m) (words_pass n) adds.words;
+  }
+
+  pub adds_reached : (version : ℕ) (old : Texts) (places : List SegmentPlace) (told : Option (List ℕ)) (done more : ℕ) (m n : LockNamer R A B C) → done ≤ more
+      → AddsTexts (IsNeeded old told (IsReached version old places told done)) m n → AddsTexts (IsNeeded old told (IsReached version old places told more)) m n
+  adds_reached version old places told done more m n le adds = record {
+    types = adds_wider (IsNeeded old told (IsReached version old places told done) Types) (IsNeeded old told (IsReached version old places told more) Types) (reached_more version old places told done more le Types) (types_pass m) (types_pass n) adds.types;
+    words = adds_wider (IsNeeded old told (IsReached version old places told done) Words) (IsNeeded old told (IsReached version old places told more) Words) (reached_more version old places told done more le Words) (words_pass m) (words_pass n) adds.words;
   }
 
   pub serves_seen : (version : ℕ) (old : Texts) (m n : LockNamer R A B C) (taker : Taker) → HasOnlySeen m n → Serves version old (books_in m) taker → Serves version old (books_in n) taker

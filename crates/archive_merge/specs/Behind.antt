@@ -6,6 +6,7 @@ use mathlib.Core.List.{IsPrefix}
 use Rattle.log_seams.specs.Disk.{DiskState}
 use Rattle.log_seams.specs.declared.disk.Disk.{Ghosts as DiskGhosts}
 use Rattle.log_seams.specs.Outside.{Rose}
+use Rattle.plain_list.specs.Texts.{IsNew}
 use Rattle.logtype_text.specs.Fair.{IsFairType, IsFairWord}
 use Rattle.row_codec.specs.declared.namer.Which.{Which}
 use Rattle.row_codec.specs.declared.namer.Which.TheVariants.{Types as WhichTypes, Words as WhichWords}
@@ -41,7 +42,7 @@ use Rattle.archive_merge.specs.declared.merger.Stopped.{Stopped}
 use Rattle.archive_merge.specs.declared.taker.Taker.{Taker}
 use Rattle.archive_merge.specs.Files.{AreCutAs, IsNotDone}
 use Rattle.archive_merge.specs.InHand.{Texts}
-use Rattle.archive_merge.specs.Merger.{StaysRead, file_at}
+use Rattle.archive_merge.specs.Merger.{IsReachedOf, StaysRead, file_at}
 use Rattle.archive_merge.specs.Needed.{IsNeeded}
 use Rattle.archive_merge.specs.Runs.{HoldRun, SoFar, nothing_so_far}
 use Rattle.archive_merge.specs.Taken.{Books, Serves, texts_by}
@@ -96,13 +97,18 @@ abbrev pub old_texts : SecondView → Which → List (List ℕ)
 old_texts s WhichTypes = s.texts.types
 old_texts s WhichWords = s.texts.words
 
--- the texts that rows of its segments need
-abbrev pub needed_of : SecondView → Which → List ℕ → Type 0
-needed_of s = IsNeeded s.texts s.told s.segments
+-- how many of so many files were done
+abbrev pub done_of : ℕ → ℕ → Option Stopped → ℕ
+done_of first count None = count
+done_of first count (Some why) = why.file - first
 
--- the texts of a book are those of the entries, and others that rows of the second archive need
-abbrev pub AreOfBoth : SecondView → List JournalEntry → Which → List (List ℕ) → Type 0
-AreOfBoth s front book texts = HasTextsBehind (needed_of s book) (book_texts book front) texts
+-- the texts that rows of its segments need that were reached of these files, up to the one with so many before it
+abbrev pub needed_of : SecondView → ℕ → ℕ → List Merged → Which → List ℕ → Type 0
+needed_of s first done files = IsNeeded s.texts s.told (IsReachedOf s.version s.texts s.told s.segments first done files)
+
+-- the texts of a book are those of the entries, and others that are needed
+abbrev pub AreOfBoth : (Which → List ℕ → Type 0) → List JournalEntry → Which → List (List ℕ) → Type 0
+AreOfBoth needs front book texts = HasTextsBehind (needs book) (book_texts book front) texts
 
 -- ---- before
 
@@ -213,12 +219,12 @@ module _ {D : Type 0} {d : DiskGhosts D} where
     pub cause : HasStopCause full has s first file.file file.messages before after why.cause
 
   -- Where the journal is told, a book may have so many texts by the header, and there are as many of the journal and of those that
-  -- rows of the second archive need; and one more of the second archive.
-  abbrev pub IsFullByBoth : SecondView → Journal D d → Which → ℕ → Type 0
-  IsFullByBoth s before book count =
+  -- are needed; and one more of the second archive, which is none of the journal.
+  abbrev pub IsFullByBoth : (Which → List ℕ → Type 0) → SecondView → Journal D d → Which → ℕ → Type 0
+  IsFullByBoth needs s before book count =
       IfTold (is_some (state_of before).disk.seen) ((count ≡ limit_of (header_limits before.header) book)
-      × IsFullBy (λ t. Contains (book_texts book (told_entries (state_of before))) t ⊎ needed_of s book t)
-      (Contains (old_texts s book)) count)
+      × IsFullBy (λ t. Contains (book_texts book (told_entries (state_of before))) t ⊎ needs book t)
+      (λ t. Contains (old_texts s book) t × IsNew (book_texts book (told_entries (state_of before))) t) count)
 
   -- Each file was moved. Where they are told, the journal's entries are those of before and new ones, which are texts and
   -- segments of the files.
@@ -232,13 +238,14 @@ module _ {D : Type 0} {d : DiskGhosts D} where
         → (new : Merged) × (slice_get files' i ≡ Some new) × IsMovedFile s first stop before fresh file new
     pub others : All (IsOfFiles files) fresh
 
-  -- The same, and each text that the new entries add is one that a row of the second archive needs. What stopped a file has its
-  -- cause.
+  -- The same, and each text that the new entries add is one that a row of the second archive needs which was reached. What stopped
+  -- a file has its cause.
   pub record HasMerged (s : SecondView) (first : ℕ) (stop : Option Stopped) (files files' : List Merged)
       (before after : Journal D d) : Type 0 where
     pub store : StoreView D
     pub stored : HasStored s first stop files files' before after store
-    pub types : All (needed_of s WhichTypes) (types_of stored.fresh)
-    pub words : All (needed_of s WhichWords) (words_of stored.fresh)
-    pub why : (why : Stopped) → stop ≡ Some why → HasStopped (IsFullByBoth s before) (AreOfBoth s) s first files'
-        before after why
+    pub types : All (needed_of s first (done_of first (length files') stop) files' WhichTypes) (types_of stored.fresh)
+    pub words : All (needed_of s first (done_of first (length files') stop) files' WhichWords) (words_of stored.fresh)
+    pub why : (why : Stopped) → stop ≡ Some why
+        → HasStopped (IsFullByBoth (needed_of s first (done_of first (length files') stop) files') s before)
+        (AreOfBoth (needed_of s first (done_of first (length files') stop) files')) s first files' before after why

@@ -1,5 +1,5 @@
 -- The locks of both books around files that are moved.
-use Rattle.std.specs.Prelude.{◌≡◌, ℕ, List, [], ◌∷◌, is_some, Option, Some}
+use Rattle.std.specs.Prelude.{◌≡◌, ℕ, List, [], ◌∷◌, is_some, length, Option, Some}
 use Rattle.std.specs.List.{Contains}
 use Rattle.log_seams.specs.declared.disk.Disk.{Ghosts as DiskGhosts}
 use Rattle.turn_lock.specs.declared.grows.Grows.{Ghosts}
@@ -22,7 +22,7 @@ use Rattle.ingest_workers.specs.NoRoom.{WereKnown}
 use Rattle.archive_merge.specs.declared.file.Merged.{Merged}
 use Rattle.archive_merge.specs.declared.merger.BookPasses.{BookPasses}
 use Rattle.archive_merge.specs.declared.merger.Stopped.{Stopped}
-use Rattle.archive_merge.specs.Behind.{HasStopped, HasStored, SecondView, needed_of, old_texts}
+use Rattle.archive_merge.specs.Behind.{HasStopped, HasStored, SecondView, done_of, needed_of, old_texts}
 
 module _ {G : Ghosts BookState (List ℕ) ℕ} where
   -- the passes are of the makers' locks
@@ -56,8 +56,8 @@ module _ {D : Type 0} {d : DiskGhosts D} {G : Ghosts BookState (List ℕ) ℕ} w
       (before after : Journal D d) (types types' words words' : BookMaker G) : Type 0 where
     pub store : StoreView D
     pub stored : HasStored s first stop files files' before after store
-    pub of_types : EndsBook (needed_of s WhichTypes) types types' store.types
-    pub of_words : EndsBook (needed_of s WhichWords) words words' store.words
+    pub of_types : EndsBook (needed_of s first (done_of first (length files') stop) files' WhichTypes) types types' store.types
+    pub of_words : EndsBook (needed_of s first (done_of first (length files') stop) files' WhichWords) words words' store.words
     pub why : (why : Stopped) → stop ≡ Some why
         → HasStopped (λ book count. WasFull (Contains (old_texts s book)) count (book_of (books_at types' words') book))
         (WereKnown (books_at types' words')) s first files' before after why

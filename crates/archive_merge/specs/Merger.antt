@@ -1,7 +1,7 @@
 -- What moves one file after the other: its passes of the two books, the second archive, and what stops it.
 use Rattle.std.specs.Prelude.{◌≡◌, ◌≢◌, ℕ, ◌-◌, ◌≤◌, List, Option, None, Some, IsSome, slice_get}
-use Rattle.std.specs.Prelude.{◌<◌, All, is_none}
-use Rattle.std.specs.List.{filter}
+use Rattle.std.specs.Prelude.{◌<◌, [], ◌∷◌, All, is_none, length}
+use Rattle.std.specs.List.{Contains, filter}
 use Rattle.std.specs.List.Sorted.{IsNonDecreasingBy}
 use Rattle.log_seams.specs.Disk.{DiskState, Rests}
 use Rattle.log_seams.specs.Outside.{Rose}
@@ -32,7 +32,7 @@ use Rattle.archive_merge.specs.Causes.{HasMoveCause}
 use Rattle.archive_merge.specs.Files.{CameOver, IsNewFile}
 use Rattle.archive_merge.specs.InHand.{Texts}
 use Rattle.archive_merge.specs.Needed.{IsNeeded}
-use Rattle.archive_merge.specs.Runs.{HoldRun, SoFar, nothing_so_far}
+use Rattle.archive_merge.specs.Runs.{HoldRun, IsReached, SoFar, nothing_so_far}
 use Rattle.archive_merge.specs.Taken.{Books, Serves, texts_by}
 
 -- ---- the passes
@@ -84,6 +84,18 @@ IsOneOf js s = (i : ℕ) × (j : Merged) × (slice_get js i ≡ Some j) × (s.fi
 abbrev pub file_at : SegmentPlace → ℕ
 file_at place = place.head.file
 
+-- The place is one of these. It was reached of one of the first files, up to the one with so many before it: where the places are
+-- sorted by file, it is one of this file, and was reached by as many messages as the file has.
+pub record IsReachedOf (version : ℕ) (old : Texts) (told : Option (List ℕ)) (places : List SegmentPlace) (first done : ℕ)
+    (files : List Merged) (place : SegmentPlace) : Type 0 where
+  pub number : ℕ
+  pub file : Merged
+  pub is : slice_get files number ≡ Some file
+  pub upto : number ≤ done
+  pub there : Contains places place
+  pub reached : IsNonDecreasingBy file_at places
+      → IsReached version old (filter (is_of (file.file - first)) places) told file.messages place
+
 pub no_passes : IsSome {T = BookPasses} None → ⊥
 no_passes none = cc (none)
 
@@ -108,18 +120,20 @@ module _ {M E : Type 0} {G : NamesGhosts M} {H : DiskGhosts E} (types words : M 
     pub may : MayName (passes_of w)
     pub serves : Serves (version_of w) (old_of w) (books_of (passes_of w)) w.second.taker
 
-  -- the texts that rows of the second archive need
-  abbrev pub needed_in : (E → DiskState) → Merger M E G H → Which → List ℕ → Type 0
-  needed_in state w = IsNeeded (old_of w) (state w.second.disk.now).seen w.second.segments.now
+  -- the texts that rows of the second archive's segments need that were reached of these files
+  abbrev pub needed_in : (E → DiskState) → Merger M E G H → List Merged → Which → List ℕ → Type 0
+  needed_in state w files = IsNeeded (old_of w) (state w.second.disk.now).seen (IsReachedOf (version_of w) (old_of w)
+      (state w.second.disk.now).seen w.second.segments.now w.first (length files) files)
 
-  -- It did nothing but move files, named only texts that rows need, and only read the second archive. Once it was stopped it
-  -- stays so.
+  -- It did nothing but move files, named only texts that rows need which it reached, and only read the second archive. Once it was
+  -- stopped it stays so, and names nothing.
   pub record MovesOn (state : E → DiskState) (js js' : List Merged) (w v : Merger M E G H) : Type 0 where
     pub first_is : v.first ≡ w.first
     pub second_is : StaysRead state w.second v.second
     pub later : (state w.second.disk.now).faults ≤ (state v.second.disk.now).faults
-    pub adds : PassesAdd (needed_in state w) (passes_of w) (passes_of v)
+    pub adds : PassesAdd (needed_in state w js') (passes_of w) (passes_of v)
     pub stop_is : w.stop ≢ None → v.stop ≡ w.stop
+    pub passes_are : w.stop ≢ None → passes_of v ≡ passes_of w
     pub stopped_by : w.stop ≡ None → (s : Stopped) → v.stop ≡ Some s → IsOneOf js s
 
   module _ {D : Type 0} where
@@ -145,11 +159,12 @@ module _ {M E : Type 0} {G : NamesGhosts M} {H : DiskGhosts E} (types words : M 
           → ¬ HoldRun (version_of w) (old_of w) bytes places nothing_so_far all
       pub fault : s.cause ≡ SecondFault → Rose (state_second w.second.disk.now).faults (state_second v.second.disk.now).faults
 
-    -- It moved the file. Where it was stopped thereby, this is why.
+    -- It moved the file, and named what rows of it need that it reached. Where it was stopped thereby, this is why.
     pub record HasMoved (state : D → DiskState) (state_second : E → DiskState) (w : Merger M E G H) (j : Merged)
         (k : KeeperPass D) (v : Merger M E G H) (j' : Merged) (k' : KeeperPass D) : Type 0 where
       pub places : List SegmentPlace
       pub are : IsNonDecreasingBy file_at w.second.segments.now → places ≡ filter (is_of (j.file - w.first)) w.second.segments.now
+      pub adds : PassesAdd (needed_in state_second w (j' ∷ [])) (passes_of w) (passes_of v)
       pub came : CameOver state (version_of w) (old_of w) places (state_second w.second.disk.now).seen (is_none v.stop) k k' j j'
       pub stopped : (s : Stopped) → v.stop ≡ Some s → IsStopFor state state_second w j k v j' k' places s
 

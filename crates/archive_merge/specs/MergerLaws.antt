@@ -8,6 +8,7 @@ use Rattle.row_codec.specs.declared.namer.Which.{Which}
 use Rattle.row_codec.specs.declared.namer.Which.TheVariants.{Types, Words}
 use Rattle.row_codec.specs.declared.names.Names.{Ghosts as NamesGhosts}
 use Rattle.archive_decode.proofs.SegmentLemmas.{rests_none}
+use Rattle.archive_open.specs.declared.segments.SegmentPlace.{SegmentPlace}
 use Rattle.ingest_fork.specs.Works.{ArePieces}
 use Rattle.ingest_fork.proofs.PlaceLemmas.{at_right, in_left}
 use Rattle.dict_lock.specs.Cached.{pass_in}
@@ -19,7 +20,7 @@ use Rattle.archive_merge.specs.declared.merger.Stopped.{Stopped}
 use Rattle.archive_merge.specs.Needed.{IsNeeded}
 use Rattle.archive_merge.specs.PassLaws.{adds_none, adds_then, adds_wider, goes_self}
 use Rattle.archive_merge.specs.Taken.{Serves, texts_by}
-use Rattle.archive_merge.specs.Merger.{IsIdle, IsOneOf, MayMoveFile, MayName, MovesOn, PassesAdd, books_of, needed_in, passes_in, passes_of}
+use Rattle.archive_merge.specs.Merger.{IsIdle, IsOneOf, IsReachedOf, MayMoveFile, MayName, MovesOn, PassesAdd, books_of, needed_in, passes_in, passes_of}
 
 pub passes_self : (P : Which → List ℕ → Type 0) (b : BookPasses) → MayName b → PassesAdd P b b
 passes_self P b may = record {
@@ -50,14 +51,23 @@ passes_in_is (Some c) some b is = ap (or_these c) is
 
 module _ {M E : Type 0} {G : NamesGhosts M} {H : DiskGhosts E} (types words : M → List (List ℕ)) (version : M → ℕ)
     (state : E → DiskState) where
+  -- what is needed of files stays so
+  pub needed_same : (js js' : List Merged) (a b : Merger M E G H) (files : List Merged)
+      → MovesOn types words version state js js' a b
+      → needed_in types words version state b files ≡ needed_in types words version state a files
+  needed_same js js' a b files one = λ i. IsNeeded (texts_by types words (one.second_is.names i).now) (one.second_is.rests.seen i)
+      (IsReachedOf (version (one.second_is.names i).now) (texts_by types words (one.second_is.names i).now)
+      (one.second_is.rests.seen i) (one.second_is.segments i).now (one.first_is i) (length files) files)
+
   pub rests : (js js' : List Merged) (w : Merger M E G H) → IsIdle types words version w
       → MovesOn types words version state js js' w w
   rests js js' w idle = record {
     first_is = refl;
     second_is = record { lent = refl; names = refl; segments = refl; rests = rests_none (state w.second.disk.now) };
     later = omega arith;
-    adds = passes_self (needed_in types words version state w) (passes_of w) idle.may;
+    adds = passes_self (needed_in types words version state w js') (passes_of w) idle.may;
     stop_is = λ some. refl;
+    passes_are = λ some. refl;
     stopped_by = λ none s some. absurd (cc (none, some));
   }
 
@@ -73,14 +83,10 @@ module _ {M E : Type 0} {G : NamesGhosts M} {H : DiskGhosts E} (types words : M 
           one.second_is.rests two.second_is.rests;
     };
     later = omega (arith, one.later, two.later);
-    adds = passes_then (needed_in types words version state a) (passes_of a) (passes_of b) (passes_of c) one.adds
-        (subst (λ n. PassesAdd (IsNeeded (texts_by types words n.now) (state a.second.disk.now).seen a.second.segments.now)
-        (passes_of b) (passes_of c)) one.second_is.names
-        (subst (λ t. PassesAdd (IsNeeded (texts_by types words b.second.names.now) t a.second.segments.now)
-        (passes_of b) (passes_of c)) one.second_is.rests.seen
-        (subst (λ s. PassesAdd (IsNeeded (texts_by types words b.second.names.now) (state b.second.disk.now).seen s.now)
-        (passes_of b) (passes_of c)) one.second_is.segments two.adds)));
+    adds = passes_then (needed_in types words version state a js') (passes_of a) (passes_of b) (passes_of c) one.adds
+        (subst (λ P. PassesAdd P (passes_of b) (passes_of c)) (needed_same js js' a b js' one) two.adds);
     stop_is = λ some. two.stop_is (subst (λ s. s ≢ None) (sym (one.stop_is some)) some) ∙ one.stop_is some;
+    passes_are = λ some. two.passes_are (subst (λ s. s ≢ None) (sym (one.stop_is some)) some) ∙ one.passes_are some;
     stopped_by = λ none s some. by_stop none s some b.stop refl;
   }
     where
@@ -95,11 +101,31 @@ module _ {M E : Type 0} {G : NamesGhosts M} {H : DiskGhosts E} (types words : M 
     first_is = one.first_is;
     second_is = one.second_is;
     later = one.later;
-    adds = one.adds;
+    adds = passes_wider (needed_in types words version state a piece') (needed_in types words version state a js')
+        (λ book t (place, reached, is). (place, further place reached, is)) (passes_of a) (passes_of b) one.adds;
     stop_is = one.stop_is;
+    passes_are = one.passes_are;
     stopped_by = λ none s some. of_piece s (one.stopped_by none s some);
   }
     where
+      further : (place : SegmentPlace)
+          → IsReachedOf (version a.second.names.now) (texts_by types words a.second.names.now) (state a.second.disk.now).seen
+          a.second.segments.now a.first (length piece') piece' place
+          → IsReachedOf (version a.second.names.now) (texts_by types words a.second.names.now) (state a.second.disk.now).seen
+          a.second.segments.now a.first (length js') js' place
+      further place r =
+          let at = ap (λ l. slice_get l (length are.before' + r.number)) are.cut'
+          ∙ (at_right are.before' (piece' ++ are.behind') r.number
+          ∙ (in_left piece' are.behind' r.number (slice_get_within piece' r.number r.file r.is) ∙ r.is)) in
+          let within = slice_get_within js' (length are.before' + r.number) r.file at in record {
+            number = length are.before' + r.number;
+            file = r.file;
+            is = at;
+            upto = omega (arith, within);
+            there = r.there;
+            reached = r.reached;
+          }
+
       of_piece : (s : Stopped) → IsOneOf piece s → IsOneOf js s
       of_piece s (i, j, at, file) = (
         length are.before + i,

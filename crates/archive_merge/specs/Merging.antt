@@ -89,7 +89,8 @@ module _ {D : Type 0} {d : DiskGhosts D} where
     pub few : first + count ≤ MAX_FILES
 
   -- The files are the first ones of those with these names, and all where nothing was refused. To the journal their names were
-  -- added, and then segments of the files, and texts that rows of the second archive need and no others.
+  -- added, and then segments of the files, and texts that rows of the second archive need and no others: rows of segments that
+  -- were reached.
   pub record HasMergedAll (s : SecondView) (first : ℕ) (names : List (List ℕ)) (files : List Merged)
       (refusal : Option MergeRefusal) (before after : Journal D d) : Type 0 where
     pub goes : HasGoneOn (state_of before) (state_of after)
@@ -101,8 +102,8 @@ module _ {D : Type 0} {d : DiskGhosts D} where
     pub named : AreNamesOf naming (take (length files) names)
     pub fresh : List JournalEntry
     pub others : All (IsOfFiles files) fresh
-    pub types : All (needed_of s Types) (types_of fresh)
-    pub words : All (needed_of s Words) (words_of fresh)
+    pub types : All (needed_of s first (done_by first (length files) refusal) files Types) (types_of fresh)
+    pub words : All (needed_of s first (done_by first (length files) refusal) files Words) (words_of fresh)
     pub each : (i : ℕ) (file : Merged) → slice_get files i ≡ Some file
         → IsMergedFile s i (done_by first (length files) refusal) (state_of before) (naming ++ fresh) file
     -- the disk, at each moment since the start and at the end
@@ -119,7 +120,8 @@ module _ {D : Type 0} {d : DiskGhosts D} where
   HasMergeCause s first names files before after (Names why) =
       HasNamesCause names (length files) (state_of before) (state_of after) why
   HasMergeCause s first names files before after (Stopped file cause) =
-      HasStopped (IsFullByBoth s before) (AreOfBoth s) s first files before after (record { file = file; cause = cause })
+      HasStopped (IsFullByBoth (needed_of s first (file - first) files) s before)
+      (AreOfBoth (needed_of s first (file - first) files)) s first files before after (record { file = file; cause = cause })
   HasMergeCause s first names files before after OutOfMemory = Unit {0}
 
   -- all of this, by the answer

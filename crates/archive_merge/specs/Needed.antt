@@ -20,6 +20,6 @@ pub record IsTextThere (old : Texts) (told : Option (List ℕ)) (place : Segment
       → HoldsSegment place.payload place.length place.head bytes all → Contains all row
   pub needs : IsTextOfRow old.types old.words row book text
 
--- a row of a segment at one of these places does
-abbrev pub IsNeeded : Texts → Option (List ℕ) → List SegmentPlace → Which → List ℕ → Type 0
-IsNeeded old told places book text = (place : SegmentPlace) × Contains places place × IsTextThere old told place book text
+-- a row of a segment at one of such places does
+abbrev pub IsNeeded : Texts → Option (List ℕ) → (SegmentPlace → Type 0) → Which → List ℕ → Type 0
+IsNeeded old told among book text = (place : SegmentPlace) × among place × IsTextThere old told place book text

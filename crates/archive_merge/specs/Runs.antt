@@ -1,5 +1,6 @@
 -- The segments of one file of the second archive, one after the other.
-use Rattle.std.specs.Prelude.{◌≡◌, ◌&&◌, ℕ, Bool, false, List, [], ◌∷◌, ◌++◌, length}
+use Rattle.std.specs.Prelude.{◌≡◌, ◌≤◌, ◌&&◌, ℕ, Bool, false, List, [], ◌∷◌, ◌++◌, length, Option, Some}
+use Rattle.std.specs.List.{Contains}
 use Rattle.column_store.specs.declared.row.Row.{Row}
 use Rattle.segment_format.specs.declared.head.Head.{Head}
 use Rattle.segment_pages.specs.Paged.{HoldsSegment}
@@ -49,3 +50,11 @@ HoldRun version old bytes (place ∷ places) now all =
     × HoldsSegment place.payload place.length place.head bytes rows
     × AddsRows version (sum_of now) old.types old.words (segment_of (part_of place.head) rows) messages
     × HoldRun version old bytes places (so_far_with now place.head messages) all
+
+-- The place is one of these. Where the bytes are told and the places are a run, its segment has its place in the file not behind so
+-- many messages.
+pub record IsReached (version : ℕ) (old : Texts) (places : List SegmentPlace) (told : Option (List ℕ)) (messages : ℕ)
+    (place : SegmentPlace) : Type 0 where
+  pub there : Contains places place
+  pub within : (bytes : List ℕ) (all : SoFar) → told ≡ Some bytes → HoldRun version old bytes places nothing_so_far all
+      → place.head.first ≤ messages

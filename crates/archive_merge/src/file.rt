@@ -6,7 +6,7 @@ ghost use Rattle.logtype_text.specs.Fair.{IsFairType, IsFairWord};
 ghost use Rattle.archive_merge.specs.Causes.{HasMoveCause};
 ghost use Rattle.archive_merge.specs.Files.{CameOver, IsNewFile};
 ghost use Rattle.archive_merge.specs.Needed.{IsNeeded};
-ghost use Rattle.archive_merge.specs.Runs.{HoldRun, SoFar, nothing_so_far};
+ghost use Rattle.archive_merge.specs.Runs.{HoldRun, IsReached, SoFar, nothing_so_far};
 ghost use Rattle.archive_merge.specs.Sealing.{AddsTexts, IsMover, books_in};
 ghost use Rattle.archive_merge.specs.Taken.{texts_by};
 ghost use Rattle.archive_merge.specs.declared.cause.MergeCause.TheVariants.{SecondDamaged, SecondFault};
@@ -59,8 +59,9 @@ pub fn move_file<'d, 'b, M: Names, E: Disk, D: Disk, R: Wait, A: Ledger, B: Ledg
     ensures mover { IsMover (M.version names.now) (texts_by M.types M.words names.now)
         keeper.new namer.new taker.new }
     ensures named { AddsTexts
-        (IsNeeded (texts_by M.types M.words names.now) (E.state disk.old).seen places.now)
-        namer.old namer.new }
+        (IsNeeded (texts_by M.types M.words names.now) (E.state disk.old).seen
+        (IsReached (M.version names.now) (texts_by M.types M.words names.now) places.now
+        (E.state disk.old).seen file.new.messages)) namer.old namer.new }
 
     // what became of the file
     ensures came { CameOver D.state (M.version names.now) (texts_by M.types M.words names.now)

@@ -12,7 +12,7 @@ ghost use Rattle.archive_merge.specs.Files.{CameOver, IsNewFile};
 ghost use Rattle.archive_merge.specs.Merger.{DidFile, GoesWith, IsIdle, MayMoveFile, MovesOn, PassesAdd, StaysRead, books_of, file_at};
 ghost use Rattle.archive_merge.specs.MergerLaws.{goes_on, rests, wider, fits_on};
 ghost use Rattle.archive_merge.specs.Needed.{IsNeeded};
-ghost use Rattle.archive_merge.specs.Runs.{HoldRun, SoFar, nothing_so_far};
+ghost use Rattle.archive_merge.specs.Runs.{HoldRun, IsReached, SoFar, nothing_so_far};
 ghost use Rattle.archive_merge.specs.Taken.{texts_by};
 ghost use Rattle.archive_merge.specs.declared.cause.MergeCause.TheVariants.{SecondDamaged, SecondFault};
 
@@ -106,7 +106,9 @@ fn move_with<'b, 'd, M: Names, E: Disk, D: Disk, R: Wait, A: Ledger, B: Ledger, 
     ensures goes { GoesWith (M.version second.old.names.now)
         (texts_by M.types M.words second.old.names.now) keeper.new result.0 second.new.taker }
     ensures named { PassesAdd (IsNeeded (texts_by M.types M.words second.old.names.now)
-        (E.state second.old.disk.now).seen places.now) passes.entry result.0 }
+        (E.state second.old.disk.now).seen (IsReached (M.version second.old.names.now)
+        (texts_by M.types M.words second.old.names.now) places.now
+        (E.state second.old.disk.now).seen file.new.messages)) passes.entry result.0 }
 
     // what became of the file
     ensures came { CameOver D.state (M.version second.old.names.now)
@@ -155,50 +157,6 @@ fn move_with<'b, 'd, M: Names, E: Disk, D: Disk, R: Wait, A: Ledger, B: Ledger, 
     (BookPasses { types, words }, result)
 }
 
-/// Moves a file with these passes, without counting its turns.
-fn move_by<'b, 'd, M: Names, E: Disk, D: Disk, R: Wait>(
-    rt: &R,
-    places: &[SegmentPlace],
-    second: &mut Second<'_, M, E>,
-    passes: BookPasses<'b>,
-    keeper: &mut Pass<'_, Store<'d, 'b, D>>,
-    file: &mut Merged,
-) -> (BookPasses<'b>, Result<(), MergeCause>)
-    requires goes { GoesWith (M.version second.old.names.now)
-        (texts_by M.types M.words second.old.names.now) keeper.old passes second.old.taker }
-    requires new { IsNewFile D.state file.old keeper.old }
-
-    // what stays, and what is named
-    ensures second { StaysRead E.state second.old second.new }
-    ensures goes { GoesWith (M.version second.old.names.now)
-        (texts_by M.types M.words second.old.names.now) keeper.new result.0 second.new.taker }
-    ensures named { PassesAdd (IsNeeded (texts_by M.types M.words second.old.names.now)
-        (E.state second.old.disk.now).seen places.now) passes.entry result.0 }
-
-    // what became of the file
-    ensures came { CameOver D.state (M.version second.old.names.now)
-        (texts_by M.types M.words second.old.names.now) places.now
-        (E.state second.old.disk.now).seen (is_ok result.1) keeper.old keeper.new
-        file.old file.new }
-
-    // causes
-    ensures causes { IfErr result.1 (HasMoveCause D.state (M.version second.old.names.now)
-        (texts_by M.types M.words second.old.names.now) places.now
-        (E.state second.old.disk.now).seen file.new.messages keeper.old keeper.new
-        (books_of result.0)) }
-    ensures damaged { IsErrOf result.1 SecondDamaged
-        → (bytes : List ℕ) (all : SoFar) → (E.state second.old.disk.now).seen ≡ Some bytes
-        → All IsFairType (M.types second.old.names.now)
-        → All IsFairWord (M.words second.old.names.now)
-        → ¬ HoldRun (M.version second.old.names.now)
-        (texts_by M.types M.words second.old.names.now) bytes places.now nothing_so_far all }
-    ensures disk { CountsOf SecondFault (E.state second.old.disk.now).faults
-        (E.state second.new.disk.now).faults result.1 }
-{
-    let blanks = (Blank::new(1), Blank::new(1), Blank::new(1));
-    move_with::<_, _, _, _, Brand, Brand, Brand>(rt, places, second, passes, keeper, file, blanks)
-}
-
 impl<'s, 'b, 'k, 'd, M: Names, E: Disk, D: Disk> Works<Merged, Pass<'k, Store<'d, 'b, D>>>
     for Merger<'s, 'b, M, E> {
     ghost ready = { IsIdle M.types M.words M.version };
@@ -217,7 +175,12 @@ impl<'s, 'b, 'k, 'd, M: Names, E: Disk, D: Disk> Works<Merged, Pass<'k, Store<'d
             unreachable!()
         };
         let places = segments_of(self.second.segments, job.file - self.first);
-        let (passes, result) = move_by(rt, places, &mut self.second, passes, keeper, job);
+        // Nobody reads the counts of its turns.
+        let blanks = (Blank::new(1), Blank::new(1), Blank::new(1));
+        let second = &mut self.second;
+        let (passes, result) = move_with::<_, _, _, _, Brand, Brand, Brand>(
+            rt, places, second, passes, keeper, job, blanks,
+        );
         let None = self.passes.replace(passes) else {
             unreachable!()
         };

@@ -1,9 +1,10 @@
 -- What `merge` answers: the files of a second archive come behind those of the archive, and the second disk is only read.
-use Rattle.std.specs.Prelude.{◌≡◌, ◌≢◌, ◌⊎◌, ◌+◌, ◌<◌, ℕ, zero, suc, All, false, List, [], ◌∷◌, ◌++◌, length, map, take, drop, min, Option, Some, None, IfSome, slice_get}
+use Rattle.std.specs.Prelude.{◌≡◌, ◌≢◌, ◌⊎◌, ◌+◌, ◌<◌, ◌≤◌, ℕ, zero, suc, All, false, List, [], ◌∷◌, ◌++◌, length, map, take, drop, min, Option, Some, None, IfSome, slice_get}
 use Rattle.std.specs.List.{Contains, filter_map, flat_map}
 use mathlib.Core.List.{IsPrefix}
 use Rattle.log_seams.specs.Disk.{DiskState, KeepsBytes}
 use Rattle.log_seams.specs.Outside.{Rose}
+use Rattle.plain_list.specs.Texts.{IsNew}
 use Rattle.record_format.specs.declared.header.Header.{Header}
 use Rattle.row_codec.specs.Means.{AreCanonical}
 use Rattle.row_codec.specs.Numbers.{numbers_of_row}
@@ -83,30 +84,31 @@ abbrev pub numbers_in : Which → Held → SegmentEntry → List ℕ
 numbers_in Types other s = map (λ row. row.log_type) s.rows
 numbers_in Words other s = flat_map (numbers_of_row other.types) s.rows
 
--- a row of one of the segments needs the text: it has its number
-abbrev pub IsNeeded : List JournalEntry → Held → Which → List ℕ → Type 0
-IsNeeded others other book text = (file : ℕ) × (s : SegmentEntry) × Contains (filter_map (in_file file) others) s
+-- A row of one of the segments that were reached needs the text: it has its number. The segment is of a file up to the one behind
+-- so many that are done, and has its place in it not behind the messages that are told.
+abbrev pub IsNeeded : Merge → ℕ → List JournalEntry → Held → Which → List ℕ → Type 0
+IsNeeded m done others other book text = (file : ℕ) × (s : SegmentEntry) × Contains (filter_map (in_file file) others) s
+    × (file ≤ done) × (line : FileLine) × (slice_get m.files file ≡ Some line) × (s.first ≤ line.messages)
     × (number : ℕ) × Contains (numbers_in book other s) number × (slice_get (texts_held book other) number ≡ Some text)
 
--- A book may have so many texts, and there are as many of the journal and of those that rows of the second archive need; and one
--- more of the second.
-abbrev pub IsFullOfBoth : Header → List JournalEntry → List JournalEntry → Held → Which → ℕ → Type 0
-IsFullOfBoth h before others other book count =
-    (count ≡ limit_of (header_limits h) book)
-    × IsFullBy (λ text. Contains (book_texts book before) text ⊎ IsNeeded others other book text)
-    (Contains (texts_held book other)) count
+-- A book may have so many texts, and there are as many of the journal and of those that are needed; and one more of the second
+-- archive, which is none of the journal.
+abbrev pub IsFullOfBoth : (Which → List ℕ → Type 0) → Header → List JournalEntry → Held → Which → ℕ → Type 0
+IsFullOfBoth needs h before other book count = (count ≡ limit_of (header_limits h) book)
+    × IsFullBy (λ text. Contains (book_texts book before) text ⊎ needs book text)
+    (λ text. Contains (texts_held book other) text × IsNew (book_texts book before) text) count
 
 -- The archive ended behind some entries, and goes past its limit of length with the record of a segment and those of texts that
--- rows of the second archive need and these entries do not have. It is this segment of the second archive as one of a file with
--- this number: by these texts its rows are the encodings of the same messages.
-pub record LacksRoom (h : Header) (before es others : List JournalEntry) (other : Held) (number : ℕ) (next : SegmentEntry)
-    (end need : ℕ) : Type 0 where
+-- are needed and these entries do not have. It is this segment of the second archive as one of a file with this number: by these
+-- texts its rows are the encodings of the same messages.
+pub record LacksRoom (needs_text : Which → List ℕ → Type 0) (h : Header) (before es : List JournalEntry) (other : Held)
+    (number : ℕ) (next : SegmentEntry) (end need : ℕ) : Type 0 where
   pub front : List JournalEntry
   pub begins : IsPrefix before front × IsPrefix front es
   pub ends : end ≡ end_of h front
   pub past : h.length_limit < end + need
   pub texts : Which → List (List ℕ)
-  pub are : (book : Which) → HasTextsBehind (IsNeeded others other book) (book_texts book front) (texts book)
+  pub are : (book : Which) → HasTextsBehind (needs_text book) (book_texts book front) (texts book)
   pub segment : SegmentEntry
   pub same : IsSegmentAs number next segment
   pub messages : List (List ℕ)
@@ -145,10 +147,10 @@ HasJournalCause h before es held g others other m done (MergeRefusal.ArchiveFull
     MayCome h held g other × (end ≡ end_of h es)
     × (need ≡ files_size (take 512 (drop (length m.files) other.names))) × (h.length_limit < end + need)
 HasJournalCause h before es held g others other m done (MergeRefusal.Full book count) =
-    MayCome h held g other × IsStopped others m done × IsFullOfBoth h before others other book count
+    MayCome h held g other × IsStopped others m done × IsFullOfBoth (IsNeeded m done others other) h before other book count
 HasJournalCause h before es held g others other m done (MergeRefusal.SegmentFull end need) =
-    MayCome h held g other
-    × ((stopped : IsStopped others m done) × LacksRoom h before es others other (held + done) stopped.next end need)
+    MayCome h held g other × ((stopped : IsStopped others m done)
+    × LacksRoom (IsNeeded m done others other) h before es other (held + done) stopped.next end need)
 HasJournalCause h before es held g others other m done _ = Unit {0}
 
 -- And what it rests on by the disks alone.
@@ -191,8 +193,8 @@ pub record TellsInOrder (m : Merge) (old new : DiskState) : Type 0 where
 
 -- The journal begins with the old one, and each image since the start stands for a journal between the two. The old files are
 -- as they were. Behind them stand the new ones as they are told: so many are done, and are the second archive's, in segments as
--- there; where nothing was refused all are, and it may come behind. Each text that was added is one that a row of the second
--- archive needs.
+-- there; where nothing was refused all are, and it may come behind. Each text that was added is one that a row which was reached
+-- needs.
 pub record TakesOver {bytes : List ℕ} (second : Option (List ℕ)) (h : Header) (before : List JournalEntry)
     (stood : StandsFor bytes h before) (m : Merge) (old new : DiskState) : Type 0 where
   pub added : List JournalEntry
@@ -205,7 +207,7 @@ pub record TakesOver {bytes : List ℕ} (second : Option (List ℕ)) (h : Header
   pub fronts : OfJournal second (λ g others other. AreFrontsOf done (content_of other) files)
   pub cuts : OfJournal second (λ g others other. (i : ℕ) → i < length files → AreSegmentsAs (length stood.legal.held.names + i)
       (filter_map (in_file i) others) (filter_map (in_file (length stood.legal.held.names + i)) added))
-  pub texts : OfJournal second (λ g others other. (book : Which) → All (IsNeeded others other book) (book_texts book added))
+  pub texts : OfJournal second (λ g others other. (book : Which) → All (IsNeeded m done others other book) (book_texts book added))
   pub all : m.refusal ≡ None → OfJournal second (λ g others other.
       (files ≡ content_of other) × MayCome h (length stood.legal.held.names) g other)
   pub cause : IfSome m.refusal (λ refusal. OfJournal second (λ g others other.

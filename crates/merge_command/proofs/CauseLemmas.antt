@@ -21,12 +21,12 @@ use Rattle.archive_open.specs.declared.files.FileEntry.{FileEntry}
 use Rattle.ingest_meaning.specs.Dictionaries.{HasTextsBehind, IsFullBy, book_texts, header_limits, limit_of}
 use Rattle.ingest_meaning.specs.Room.{needed_behind}
 use Rattle.ingest_workers.specs.Ingested.{told_entries}
-use Rattle.archive_merge.specs.Behind.{AreOfBoth, IsFullByBoth, LackedRoom, SecondView, needed_of, old_texts}
+use Rattle.archive_merge.specs.Behind.{AreOfBoth, IsFullByBoth, LackedRoom, SecondView, old_texts}
 use Rattle.archive_merge.specs.Laws.{IsSegmentAt, view_in}
 use Rattle.archive_merge.specs.declared.file.Merged.{Merged}
 use Rattle.archive_merge.proofs.SealingLemmas.{canonical_long}
 use Rattle.file_lines.specs.Directory.{FileLine}
-use Rattle.command_answers.specs.Merging.{IsFullOfBoth, IsNeeded, LacksRoom, texts_held}
+use Rattle.command_answers.specs.Merging.{IsFullOfBoth, LacksRoom, Merge, texts_held}
 use Rattle.merge_command.specs.Came.{lines_by, name_in}
 use Rattle.write_commands.proofs.LeavesLemmas.{of_told}
 
@@ -38,14 +38,14 @@ texts_same s b bytes g es other view is Types = ap (λ (v : SecondView). v.texts
 texts_same s b bytes g es other view is Words = ap (λ (v : SecondView). v.texts.words) view ∙ ap (λ (k : Kept). k.words) is.kept
 
 -- what is said of texts, where they are also of a wider kind
-full_wider : (P Q next : List ℕ → Type 0) (count : ℕ) → ((t : List ℕ) → P t → Q t) → IsFullBy P next count → IsFullBy Q next count
-full_wider P Q next count wider full = record {
+full_wider : (P Q next next' : List ℕ → Type 0) (count : ℕ) → ((t : List ℕ) → P t → Q t) → ((t : List ℕ) → next t → next' t) → IsFullBy P next count → IsFullBy Q next' count
+full_wider P Q next next' count wider wider_next full = record {
   texts = full.texts;
   all = full.all;
   distinct = full.distinct;
   each = All-weaker P Q wider full.texts full.each;
   text = full.text;
-  is = full.is;
+  is = wider_next full.text full.is;
   new = full.new;
 }
 
@@ -53,23 +53,22 @@ behind_wider : (P Q : List ℕ → Type 0) (first texts : List (List ℕ)) → (
 behind_wider P Q first texts wider has = record { begins = has.begins; distinct = has.distinct; others = All-weaker P Q wider (drop (length first) texts) has.others }
 
 module _ {D : Type 0} {d : DiskGhosts D} (s : SecondView) (h : Header) (before : List JournalEntry) (j after : Journal D d) (told : is_some (state_of j).disk.seen ≡ true) (header : j.header ≡ h) (entries : told_entries (state_of j) ≡ before)
-    (es : List JournalEntry) (left : told_entries (state_of after) ≡ es) (others : List JournalEntry) (other : Held) (texts : (book : Which) → old_texts s book ≡ texts_held book other)
-    (needed : (book : Which) (t : List ℕ) → needed_of s book t → IsNeeded others other book t) where
+    (es : List JournalEntry) (left : told_entries (state_of after) ≡ es) (other : Held) (texts : (book : Which) → old_texts s book ≡ texts_held book other)
+    (needs needs' : Which → List ℕ → Type 0) (needed : (book : Which) (t : List ℕ) → needs book t → needs' book t) where
   -- a dictionary that is full
-  pub full_of_both : (book : Which) (count : ℕ) → IsFullByBoth s j book count → IsFullOfBoth h before others other book count
+  pub full_of_both : (book : Which) (count : ℕ) → IsFullByBoth needs s j book count → IsFullOfBoth needs' h before other book count
   full_of_both book count full =
       let was = of_told (is_some (state_of j).disk.seen) told full in
-      subst (λ ts. (count ≡ limit_of (header_limits h) book) × IsFullBy (λ t. Contains (book_texts book before) t ⊎ IsNeeded others other book t) (Contains ts) count) (texts book)
-      (subst (λ es. (count ≡ limit_of (header_limits h) book) × IsFullBy (λ t. Contains (book_texts book es) t ⊎ IsNeeded others other book t) (Contains (old_texts s book)) count) entries
-      (subst (λ x. (count ≡ limit_of (header_limits x) book) × IsFullBy (λ t. Contains (book_texts book (told_entries (state_of j))) t ⊎ IsNeeded others other book t) (Contains (old_texts s book)) count) header (
+      subst (λ es. IsFullOfBoth needs' h es other book count) entries
+      (subst (λ x. IsFullOfBoth needs' x (told_entries (state_of j)) other book count) header (
         was.0,
-        full_wider (λ t. Contains (book_texts book (told_entries (state_of j))) t ⊎ needed_of s book t) (λ t. Contains (book_texts book (told_entries (state_of j))) t ⊎ IsNeeded others other book t) (Contains (old_texts s book)) count
-            (λ t. ⊎_elim (λ (a : Contains (book_texts book (told_entries (state_of j))) t). inl a) (λ (b : needed_of s book t). inr (needed book t b))) was.1,
-      )))
+        full_wider _ _ _ _ count (λ t. ⊎_elim (λ (a : Contains (book_texts book (told_entries (state_of j))) t). inl a) (λ (b : needs book t). inr (needed book t b)))
+            (λ t a. (subst (λ ts. Contains ts t) (texts book) a.0, a.1)) was.1,
+      ))
 
   -- a segment that does not fit, which is this one of the second archive's journal
   pub lacks_room : (bytes : List ℕ) → s.told ≡ Some bytes → s.version ≡ h.version → (next : SegmentEntry) (first file done number end need : ℕ) → file ≡ number → h.length_limit < end + need
-      → (lacked : LackedRoom (AreOfBoth s) s first file done j after end need) → IsSegmentAt bytes lacked.place next → LacksRoom h before es others other number next end need
+      → (lacked : LackedRoom (AreOfBoth needs) s first file done j after end need) → IsSegmentAt bytes lacked.place next → LacksRoom needs' h before es other number next end need
   lacks_room bytes told_is version next first file done number end need same past lacked at = record {
     front = lacked.front;
     begins = (subst (λ l. IsPrefix l lacked.front) entries lacked.between.0, subst (λ l. IsPrefix lacked.front l) left lacked.between.1);
@@ -105,9 +104,9 @@ module _ {D : Type 0} {d : DiskGhosts D} (s : SecondView) (h : Header) (before :
       in_book Types = lacked.types
       in_book Words = lacked.words
 
-      are : (book : Which) → HasTextsBehind (IsNeeded others other book) (book_texts book lacked.front) (in_book book)
-      are Types = behind_wider (needed_of s Types) (IsNeeded others other Types) (book_texts Types lacked.front) lacked.types (needed Types) lacked.has_types
-      are Words = behind_wider (needed_of s Words) (IsNeeded others other Words) (book_texts Words lacked.front) lacked.words (needed Words) lacked.has_words
+      are : (book : Which) → HasTextsBehind (needs' book) (book_texts book lacked.front) (in_book book)
+      are Types = behind_wider (needs Types) (needs' Types) (book_texts Types lacked.front) lacked.types (needed Types) lacked.has_types
+      are Words = behind_wider (needs Words) (needs' Words) (book_texts Words lacked.front) lacked.words (needed Words) lacked.has_words
 
 -- ---- the file that stopped a merge
 
@@ -120,3 +119,8 @@ line_at (f ∷ files) (x ∷ ms) zero m few at =
     let same : x ≡ m = cc (at) in
     (record { name = f.name; messages = x.messages; whole = x.whole }, refl, refl, ap (λ (y : Merged). y.messages) same)
 line_at (f ∷ files) (x ∷ ms) (suc place) m few at = line_at files ms place m (omega (arith, few)) at
+
+-- so there is one in what is told
+pub line_told : (files : List FileEntry) (ms : List Merged) → length ms ≤ length files → (m : Merge) → m.files ≡ lines_by files ms → (i : ℕ) (x : Merged) → slice_get ms i ≡ Some x
+    → (line : FileLine) × (slice_get m.files i ≡ Some line) × (line.messages ≡ x.messages)
+line_told files ms few m are i x at = let l = line_at files ms i x few at in (l.0, ap (λ ls. slice_get ls i) are ∙ l.1, l.3)

@@ -45,7 +45,7 @@ use Rattle.command_answers.specs.Merging.{HasDiskCause, HasJournalCause, IsNeede
 use Rattle.merge_command.specs.Came.{lines_by, name_at, name_in, place_stopped, refusal_by}
 use Rattle.write_commands.specs.JournalLeft.{StandsBetween}
 use Rattle.write_commands.proofs.LeavesLemmas.{begun_sooner, from_archive, of_told, prefix_same, still_between}
-use Rattle.merge_command.proofs.CauseLemmas.{full_of_both, lacks_room, line_at, texts_same}
+use Rattle.merge_command.proofs.CauseLemmas.{full_of_both, lacks_room, line_at, line_told, texts_same}
 use Rattle.merge_command.proofs.OverLemmas.{names_shown}
 use Rattle.merge_command.proofs.RefusedLemmas.{of_all}
 use Rattle.merge_command.proofs.SegmentLemmas.{needed_theirs}
@@ -147,7 +147,7 @@ module _ (runs : FilesAreRuns) (fair : TextsAreFair) (theirs : SegmentsAreTheirs
     version_is = ap (λ (v : SecondView). v.version) (view bytes is) ∙ ap (λ (k : Kept). k.version) shown.kept
 
     -- the file that stopped it, by the place of its next segment
-    is_stopped : (file : ℕ) (cause : MergeCause) (stopped : HasStopped (IsFullByBoth s j) (AreOfBoth s) s first ms j after (record { file = file; cause = cause })) (place : SegmentPlace) → Contains (places_for s (stopped.file.file - first)) place → place.head.first ≡ stopped.file.messages
+    is_stopped : (file : ℕ) (cause : MergeCause) (stopped : HasStopped (IsFullByBoth (needed_of s first (file - first) ms) s j) (AreOfBoth (needed_of s first (file - first) ms)) s first ms j after (record { file = file; cause = cause })) (place : SegmentPlace) → Contains (places_for s (stopped.file.file - first)) place → place.head.first ≡ stopped.file.messages
         → (m : Merge) → m.files ≡ lines_by b.files ms → m.name ≡ name_at b.files (Some (file - first)) → (stop : IsStopped es m (file - first)) × IsSegmentAt bytes place stop.next
     is_stopped file cause stopped place there next m files name =
         let l = line_at b.files ms stopped.place stopped.file few stopped.is in
@@ -167,25 +167,25 @@ module _ (runs : FilesAreRuns) (fair : TextsAreFair) (theirs : SegmentsAreTheirs
         )
 
     -- what rows of the second archive need, rows of its journal's segments need
-    needed : (book : Which) (text : List ℕ) → needed_of s book text → IsNeeded es stood.legal.held book text
-    needed = needed_theirs theirs s b bytes g es stood (view bytes is) shown
+    needed : (m : Merge) → m.files ≡ lines_by b.files ms → (done : ℕ) (book : Which) (text : List ℕ) → needed_of s first done ms book text → IsNeeded m done es stood.legal.held book text
+    needed m files done = needed_theirs runs theirs s b bytes g es stood (view bytes is) shown first done ms numbers m (line_told b.files ms few m files)
 
     -- where a dictionary was full
-    full_stopped : (file : ℕ) (cause : MergeCause) → HasStopped (IsFullByBoth s j) (AreOfBoth s) s first ms j after (record { file = file; cause = cause }) → (m : Merge) → m.files ≡ lines_by b.files ms → m.name ≡ name_at b.files (Some (file - first)) → IsStopped es m (file - first)
+    full_stopped : (file : ℕ) (cause : MergeCause) → HasStopped (IsFullByBoth (needed_of s first (file - first) ms) s j) (AreOfBoth (needed_of s first (file - first) ms)) s first ms j after (record { file = file; cause = cause }) → (m : Merge) → m.files ≡ lines_by b.files ms → m.name ≡ name_at b.files (Some (file - first)) → IsStopped es m (file - first)
     full_stopped file cause stopped m files name =
         let left = stopped.not_done (held_of (stopped.file.file - first) stood.legal.held) (run_of (stopped.file.file - first)) in
         (is_stopped file cause stopped left.place left.there left.next m files name).0
 
     -- where a segment did not fit
     room_stopped : (h : Header) (before after_is : List JournalEntry) (held : ℕ) → is_some (state_of j).disk.seen ≡ true → j.header ≡ h → told_entries (state_of j) ≡ before → told_entries (state_of after) ≡ after_is → g.version ≡ h.version → first ≡ held → (file end need : ℕ)
-        → HasStopped (IsFullByBoth s j) (AreOfBoth s) s first ms j after (record { file = file; cause = ArchiveFull end need }) → (m : Merge) → m.files ≡ lines_by b.files ms → m.name ≡ name_at b.files (Some (file - first))
-        → (stop : IsStopped es m (file - first)) × LacksRoom h before after_is es stood.legal.held (held + (file - first)) stop.next end need
+        → HasStopped (IsFullByBoth (needed_of s first (file - first) ms) s j) (AreOfBoth (needed_of s first (file - first) ms)) s first ms j after (record { file = file; cause = ArchiveFull end need }) → (m : Merge) → m.files ≡ lines_by b.files ms → m.name ≡ name_at b.files (Some (file - first))
+        → (stop : IsStopped es m (file - first)) × LacksRoom (IsNeeded m (file - first) es stood.legal.held) h before after_is stood.legal.held (held + (file - first)) stop.next end need
     room_stopped h before after_is held told header entries left version number file end need stopped m files name =
         let lacked = of_told (is_some (state_of j).disk.seen) told stopped.cause.1 in
         let stop = is_stopped file (ArchiveFull end need) stopped lacked.place (lacked.there (run_of (stopped.file.file - first)).sorted) (sym lacked.at ∙ lacked.next) m files name in
         let same : stopped.file.file ≡ held + (file - first) = omega (arith, numbers stopped.place stopped.file stopped.is, stopped.file_is, number) in (
           stop.0,
-          lacks_room s h before j after told header entries after_is left es stood.legal.held (texts_same s b bytes g es stood.legal.held (view bytes is) shown) needed bytes is (version_is ∙ version) stop.0.next first stopped.file.file stopped.file.messages (held + (file - first)) end need same
+          lacks_room s h before j after told header entries after_is left stood.legal.held (texts_same s b bytes g es stood.legal.held (view bytes is) shown) (needed_of s first (file - first) ms) (IsNeeded m (file - first) es stood.legal.held) (needed m files (file - first)) bytes is (version_is ∙ version) stop.0.next first stopped.file.file stopped.file.messages (held + (file - first)) end need same
               (subst (λ (x : Header). x.length_limit < end + need) header stopped.cause.0) lacked stop.1,
         )
 
@@ -210,7 +210,7 @@ module _ (runs : FilesAreRuns) (fair : TextsAreFair) (theirs : SegmentsAreTheirs
         over_stood s.told b (λ g es other. HasJournalCause h before (before ++ added) held g es other m (file - first) (refusal_by last (Stopped file (Full book count)))) opens (λ bytes g es stood is shown. (
           may g es stood.legal.held shown,
           full_stopped bytes g es stood is shown file (Full book count) cause m files name,
-          full_of_both s h before j after told header entries (before ++ added) (left (λ e. absurd (cc (e)))) es stood.legal.held (texts_same s b bytes g es stood.legal.held (view bytes is) shown) (needed bytes g es stood is shown) book count cause.cause,
+          full_of_both s h before j after told header entries (before ++ added) (left (λ e. absurd (cc (e)))) stood.legal.held (texts_same s b bytes g es stood.legal.held (view bytes is) shown) (needed_of s first (file - first) ms) (IsNeeded m (file - first) es stood.legal.held) (needed bytes g es stood is shown m files (file - first)) book count cause.cause,
         ))
     journal_cause (Stopped file (ArchiveFull end need)) left name cause =
         over_stood s.told b (λ g es other. HasJournalCause h before (before ++ added) held g es other m (file - first) (refusal_by last (Stopped file (ArchiveFull end need)))) opens (λ bytes g es stood is shown. (

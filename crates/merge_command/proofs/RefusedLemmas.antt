@@ -47,14 +47,14 @@ took_nothing refusal old new second h before stood nothing cause = record {
   done = 0;
   fronts = of_all second (λ g es other. AreFrontsOf 0 (content_of other) []) (λ g es other. tt);
   cuts = of_all second _ (λ g es other i less. absurd (omega (arith, less)));
-  texts = of_all second (λ g es other. (book : Which) → All (IsNeeded es other book) (book_texts book [])) (λ g es other. no_texts es other);
+  texts = of_all second (λ g es other. (book : Which) → All (IsNeeded (refused_by refusal) 0 es other book) (book_texts book [])) (λ g es other. no_texts es other);
   all = λ none. absurd (cc (none));
   cause = cause;
 }
   where
-    no_texts : (es : List JournalEntry) (other : Held) (book : Which) → All (IsNeeded es other book) (book_texts book [])
-    no_texts es other Types = All-nil (IsNeeded es other Types)
-    no_texts es other Words = All-nil (IsNeeded es other Words)
+    no_texts : (es : List JournalEntry) (other : Held) (book : Which) → All (IsNeeded (refused_by refusal) 0 es other book) (book_texts book [])
+    no_texts es other Types = All-nil (IsNeeded (refused_by refusal) 0 es other Types)
+    no_texts es other Words = All-nil (IsNeeded (refused_by refusal) 0 es other Words)
 
     same : (image : List ℕ) (stands : StandsFor image h (before ++ [])) → content_of stands.legal.held ≡ content_of stood.legal.held ++ []
     same image stands = held_same ∙ sym (append-nil (content_of stood.legal.held))

@@ -35,6 +35,7 @@ use Rattle.merge_command.specs.Came.{lines_by}
 use Rattle.write_commands.proofs.LeavesLemmas.{of_told, opened_as}
 use Rattle.write_commands.proofs.PieceLemmas.{IsNewFrom}
 use Rattle.merge_command.proofs.ContentLemmas.{types_behind, words_behind}
+use Rattle.merge_command.proofs.CauseLemmas.{line_told}
 use Rattle.merge_command.proofs.MergedLemmas.{over_stood}
 use Rattle.merge_command.proofs.SegmentLemmas.{needed_theirs}
 use Rattle.merge_command.proofs.OverLemmas.{all_new, content, cuts, files as new_files, fronts, leaves_journal, legal_left, lines, whole}
@@ -100,7 +101,7 @@ module _ (runs : FilesAreRuns) (theirs : SegmentsAreTheirs) {D : Type 0} {d : Di
       fronts = fronts runs s b opens view h before merged.naming merged.fresh stood ms few merged.named legal new (state_of j) some opened.0 opened.1 (done_by first (length ms) why) numbers merged.each;
       done = done_by first (length ms) why;
       cuts = cuts runs s b opens view h before merged.naming merged.fresh stood ms few merged.named legal new (state_of j) some opened.0 opened.1 (done_by first (length ms) why) numbers merged.each theirs;
-      texts = over_stood s.told b (λ g es other. (book : Which) → All (IsNeeded es other book) (book_texts book added)) opens texts_of;
+      texts = over_stood s.told b (λ g es other. (book : Which) → All (IsNeeded m (done_by first (length ms) why) es other book) (book_texts book added)) opens texts_of;
       all = λ is. both_of s.told _ _ _ (λ g es other one two. (one, two))
           (whole runs s b opens view h before merged.naming merged.fresh stood ms few merged.named legal new (state_of j) some opened.0 opened.1 (done_by first (length ms) why) numbers merged.each (omega (arith, all_done (none is), merged.done (none is), length-map b.files (λ (f : FileEntry). f.name))) (merged.done (none is) ∙ length-map b.files (λ (f : FileEntry). f.name)))
           (comes h (length stood.legal.held.names) opened.0 number);
@@ -111,10 +112,12 @@ module _ (runs : FilesAreRuns) (theirs : SegmentsAreTheirs) {D : Type 0} {d : Di
         all_done is = ap (done_by first (length ms)) is
 
         texts_of : (image : List ℕ) (g : Header) (es : List JournalEntry) (stood_there : StandsFor image g es) → s.told ≡ Some image → IsArchiveOf b g es stood_there.legal.held
-            → (book : Which) → All (IsNeeded es stood_there.legal.held book) (book_texts book added)
+            → (book : Which) → All (IsNeeded m (done_by first (length ms) why) es stood_there.legal.held book) (book_texts book added)
         texts_of image g es stood_there is shown Types =
-            subst (All (IsNeeded es stood_there.legal.held Types)) (sym (types_behind merged.naming merged.fresh _ merged.named))
-            (All-weaker (needed_of s Types) (IsNeeded es stood_there.legal.held Types) (needed_theirs theirs s b image g es stood_there (view image is) shown Types) (types_of merged.fresh) merged.types)
+            subst (All (IsNeeded m (done_by first (length ms) why) es stood_there.legal.held Types)) (sym (types_behind merged.naming merged.fresh _ merged.named))
+            (All-weaker (needed_of s first (done_by first (length ms) why) ms Types) (IsNeeded m (done_by first (length ms) why) es stood_there.legal.held Types)
+            (needed_theirs runs theirs s b image g es stood_there (view image is) shown first (done_by first (length ms) why) ms merged.numbers m (line_told b.files ms few m lines_are) Types) (types_of merged.fresh) merged.types)
         texts_of image g es stood_there is shown Words =
-            subst (All (IsNeeded es stood_there.legal.held Words)) (sym (words_behind merged.naming merged.fresh _ merged.named))
-            (All-weaker (needed_of s Words) (IsNeeded es stood_there.legal.held Words) (needed_theirs theirs s b image g es stood_there (view image is) shown Words) (words_of merged.fresh) merged.words)
+            subst (All (IsNeeded m (done_by first (length ms) why) es stood_there.legal.held Words)) (sym (words_behind merged.naming merged.fresh _ merged.named))
+            (All-weaker (needed_of s first (done_by first (length ms) why) ms Words) (IsNeeded m (done_by first (length ms) why) es stood_there.legal.held Words)
+            (needed_theirs runs theirs s b image g es stood_there (view image is) shown first (done_by first (length ms) why) ms merged.numbers m (line_told b.files ms few m lines_are) Words) (words_of merged.fresh) merged.words)

@@ -8,6 +8,7 @@ log c.log "task_2 done\n7\n"
 log d.log "task_9 done\ntask_2 done"
 log e.log ""
 log u.log "a\x12\\b 7\n2023-11-14 22:13:20.000123 up\n"
+log w.log "task_1 done\ntask_2 done\nup task_3\ntask_4 done\n"
 log t.log "2023-11-14 22:13:20,000 INFO start\n\tat x.Y(Z.java:7)\n\tat x.Z(Z.java:9)\n"
 
 # ---- archives are merged, and the second one stays
@@ -191,6 +192,42 @@ call check
 is 0 "entries 5 files 3 messages 2\n"
 swap
 image $second
+
+# texts of segments that were not reached are not there: a stop leaves, byte for byte, what that of an ingest does
+row
+call create --types=1
+call ingest --segment=1 w.log
+is 4 "0 2 part w.log\n" "clpa: w.log: dictionary of types is full at 1\n"
+keep stopped
+disk ""
+call create --types=1
+swap
+disk ""
+call create
+call ingest --segment=1 w.log
+keep second
+swap
+call merge
+is 4 "0 2 part w.log\n" "clpa: w.log: dictionary of types is full at 1\n"
+image $stopped
+swap
+image $second
+
+row
+call create --words=2
+call ingest --segment=1 w.log
+is 4 "0 2 part w.log\n" "clpa: w.log: dictionary of words is full at 2\n"
+keep stopped
+disk ""
+call create --words=2
+swap
+disk ""
+call create
+call ingest --segment=1 w.log
+swap
+call merge
+is 4 "0 2 part w.log\n" "clpa: w.log: dictionary of words is full at 2\n"
+image $stopped
 
 # no archive
 row

@@ -10,4 +10,4 @@ returns-in-Ok-with_passes-clause-merged g c =
     let of_words : OpensWords c.len-2.result c.args.journal c.in-Ok-new.words = record { book = c.args.words; opening = c.in-Ok-new.ensures.maker; has = record { counted = c.len-2.ensures.count; are = c.requires.books.words_are } } in
     let types_apart = subst AreDistinct c.close-types.ensures.entries c.len-in-Ok-with_passes.ensures.distinct in
     let words_apart = subst AreDistinct c.close-words.ensures.entries c.len-in-Ok-with_passes-2.ensures.distinct in
-    has_merged _ _ _ _ _ c.args.journal _ _ _ _ _ _ _ of_types of_words c.in-Ok-with_passes.ensures.moved c.close-types.ensures.owned c.close-words.ensures.owned types_apart words_apart
+    has_merged _ _ _ _ _ c.args.journal _ _ _ _ _ _ _ of_types of_words c.len.ensures.limit c.len-2.ensures.limit c.in-Ok-with_passes.ensures.moved c.close-types.ensures.owned c.close-words.ensures.owned types_apart words_apart

@@ -8,8 +8,8 @@ use Rattle.archive_merge.specs.declared.cause.MergeCause.TheVariants.{SecondDama
 use Rattle.archive_merge.specs.Causes.{HasMoveCause}
 use Rattle.archive_merge.specs.Sealing.{MovesSegment, books_in}
 use Rattle.archive_merge.specs.Taken.{texts_by}
-use Rattle.archive_merge.proofs.FileLemmas.{came_over, cause_since, contains_place, err_not_ok, holds_next, way_begins, way_moves}
-use Rattle.archive_merge.proofs.SealingLemmas.{adds_at, adds_self, texts_then}
+use Rattle.archive_merge.proofs.FileLemmas.{came_over, cause_since, contains_place, err_not_ok, holds_next, moved_reached, next_reached, way_begins, way_moves}
+use Rattle.archive_merge.proofs.SealingLemmas.{adds_at, adds_reached, adds_self, texts_then}
 use Rattle.archive_decode.proofs.SegmentLemmas.{rests_none}
 use Rattle.archive_merge.proofs.file.move_file.Goals as goal
 
@@ -24,7 +24,8 @@ loop-place-init g c = record {
 
 pub returns-in_err-move_segment-clause-named : goal.returns-in_err-move_segment-clause-named
 returns-in_err-move_segment-clause-named g c = texts_then _ _ _ _ c.loop-place.invariant.named
-    (adds_at _ _ _ c.args.places.now c.place-item.result _ _ c.loop-place.invariant.rests.seen (contains_place c.args.places.now c.loop-place.place-index c.place-item.result c.loop-place-test.true c.place-item.is) c.move_segment.ensures.named)
+    (adds_at _ _ _ _ c.place-item.result _ _ c.loop-place.invariant.rests.seen
+    (next_reached _ _ _ _ _ _ c.loop-place.place-index c.loop-place.keeper c.loop-place.file c.loop-place.hand c.loop-place.invariant.way c.place-item.result c.loop-place-test.true c.place-item.is) c.move_segment.ensures.named)
 
 pub returns-in_err-move_segment-clause-came : goal.returns-in_err-move_segment-clause-came
 returns-in_err-move_segment-clause-came g c =
@@ -68,8 +69,11 @@ loop-place-preserved g c =
     record {
       rests = rests_on _ _ _ now.invariant.rests c.in_ok-move_segment.ensures.rests;
       mover = c.in_ok-move_segment.ensures.mover;
-      named = texts_then _ _ _ _ now.invariant.named
-          (adds_at _ _ _ c.args.places.now c.place-item.result _ _ now.invariant.rests.seen (contains_place c.args.places.now now.place-index c.place-item.result c.loop-place-test.true c.place-item.is) c.in_ok-move_segment.ensures.named);
+      named = adds_reached version old c.args.places.now (g.E.Disk.state c.args.disk.now).seen now.file.messages _ _ _
+          (moved_reached _ _ _ _ _ _ now.place-index now.keeper now.file now.hand now.invariant.way c.place-item.result c.loop-place-test.true c.place-item.is c.move_segment.new.keeper c.move_segment.new.hand _ moved refl)
+          (texts_then _ _ _ _ now.invariant.named
+          (adds_at _ _ _ _ c.place-item.result _ _ now.invariant.rests.seen
+          (next_reached _ _ _ _ _ _ now.place-index now.keeper now.file now.hand now.invariant.way c.place-item.result c.loop-place-test.true c.place-item.is) c.in_ok-move_segment.ensures.named));
       way = way_moves _ _ _ _ _ _ now.place-index now.keeper now.file now.hand now.invariant.way c.place-item.result c.loop-place-test.true c.place-item.is c.move_segment.new.keeper _ c.move_segment.new.hand moved refl refl refl;
       disk = c.in_ok-move_segment.ensures.disk.steady ∙ now.invariant.disk;
     }

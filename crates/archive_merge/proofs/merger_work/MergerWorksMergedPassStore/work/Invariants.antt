@@ -1,4 +1,4 @@
-use Rattle.archive_merge.proofs.merger_work.move_by.Given as goal
+use Rattle.archive_merge.proofs.merger_work.MergerWorksMergedPassStore.work.Given as goal
 
 abbrev pub ghosts-move_with-A-Ledger : goal.ghosts-move_with-A-Ledger
 ghosts-move_with-A-Ledger g a = record { name = a.blanks.0.name; parts = a.blanks.0.parts }
