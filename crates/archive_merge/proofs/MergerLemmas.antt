@@ -52,7 +52,7 @@ module _ {M E D : Type 0} {G : NamesGhosts M} {H : DiskGhosts E} (types words : 
   }
 
   -- what was named for the file is what rows of it need that were reached
-  pub adds_one : (places : List SegmentPlace) → ((place : SegmentPlace) → Contains places place → Contains w.second.segments.now place)
+  adds_one : (places : List SegmentPlace) → ((place : SegmentPlace) → Contains places place → Contains w.second.segments.now place)
       → (IsNonDecreasingBy file_at w.second.segments.now → places ≡ filter (is_of (j.file - w.first)) w.second.segments.now) → j'.file ≡ j.file
       → PassesAdd (IsNeeded (texts_by types words w.second.names.now) (state_second w.second.disk.now).seen (IsReached (version w.second.names.now) (texts_by types words w.second.names.now) places (state_second w.second.disk.now).seen j'.messages)) b c
       → PassesAdd (needed_in types words version state_second w (j' ∷ [])) (passes_of w) (passes_of v)
@@ -74,20 +74,23 @@ module _ {M E D : Type 0} {G : NamesGhosts M} {H : DiskGhosts E} (types words : 
       }
 
   pub moves_on : v.first ≡ w.first → (state_second w.second.disk.now).faults ≤ (state_second v.second.disk.now).faults
-      → PassesAdd (needed_in types words version state_second w (j' ∷ [])) (passes_of w) (passes_of v) → w.stop ≡ None
+      → (places : List SegmentPlace) → ((place : SegmentPlace) → Contains places place → Contains w.second.segments.now place)
+      → (IsNonDecreasingBy file_at w.second.segments.now → places ≡ filter (is_of (j.file - w.first)) w.second.segments.now) → j'.file ≡ j.file
+      → PassesAdd (IsNeeded (texts_by types words w.second.names.now) (state_second w.second.disk.now).seen (IsReached (version w.second.names.now) (texts_by types words w.second.names.now) places (state_second w.second.disk.now).seen j'.messages)) b c → w.stop ≡ None
       → ((s : Stopped) → v.stop ≡ Some s → IsOneOf (j ∷ []) s) → MovesOn types words version state_second (j ∷ []) (j' ∷ []) w v
-  moves_on first later adds none stopped = record {
+  moves_on first later places among are file named none stopped = record {
     first_is = first;
     second_is = stays;
     later = later;
-    adds = adds;
+    adds = adds_one places among are file named;
     stop_is = λ some. absurd (some none);
     passes_are = λ some. absurd (some none);
     stopped_by = λ was s is. stopped s is;
   }
 
   module _ (places : List SegmentPlace) (are : IsNonDecreasingBy file_at w.second.segments.now → places ≡ filter (is_of (j.file - w.first)) w.second.segments.now) (none : w.stop ≡ None)
-      (adds : PassesAdd (needed_in types words version state_second w (j' ∷ [])) (passes_of w) (passes_of v)) where
+      (among : (place : SegmentPlace) → Contains places place → Contains w.second.segments.now place) (same_file : j'.file ≡ j.file)
+      (named : PassesAdd (IsNeeded (texts_by types words w.second.names.now) (state_second w.second.disk.now).seen (IsReached (version w.second.names.now) (texts_by types words w.second.names.now) places (state_second w.second.disk.now).seen j'.messages)) b c) where
     -- the file was moved
     pub did_all : v.stop ≡ None → CameOver state (version w.second.names.now) (texts_by types words w.second.names.now) places (state_second w.second.disk.now).seen true k k' j j'
         → DidFile types words version state state_second w j k v j' k'
@@ -96,7 +99,7 @@ module _ {M E D : Type 0} {G : NamesGhosts M} {H : DiskGhosts E} (types words : 
       moved = λ was. record {
         places = places;
         are = are;
-        adds = adds;
+        adds = adds_one places among are same_file named;
         came = subst (λ t. CameOver state (version w.second.names.now) (texts_by types words w.second.names.now) places (state_second w.second.disk.now).seen t k k' j j') (sym (ap is_none still)) came;
         stopped = λ s is. absurd (cc (still, is));
       };
@@ -115,7 +118,7 @@ module _ {M E D : Type 0} {G : NamesGhosts M} {H : DiskGhosts E} (types words : 
       moved = λ was. record {
         places = places;
         are = are;
-        adds = adds;
+        adds = adds_one places among are same_file named;
         came = subst (λ t. CameOver state (version w.second.names.now) (texts_by types words w.second.names.now) places (state_second w.second.disk.now).seen t k k' j j') not_ok came;
         stopped = λ t at. subst (λ x. IsStopFor types words version state state_second w j k v j' k' places x) (only t at) here;
       };

@@ -46,7 +46,7 @@ returns-in-Ok-clause-moved g c =
     let ended = c.end-journal.ensures.ended in
     let kept = c.end-journal.ensures.kept in
     let begin = subst (λ s. MayBegin c.args.order.first (g.M.Names.version s.names.now) c.args.journal c.args.files.now) (sym c.new-merger.ensures.second) c.requires.begin in
-    let named = named_by g.M.Names.types g.M.Names.words g.M.Names.version g.E.Disk.state c.args.journal c.pass-types_reader.result c.pass-words_reader.result c.args.order.types_saved c.args.order.words_saved c.in-Ok.store _ _ c.args.order.first c.new-merger.result c.move_files.new.merger c.args.files.now c.move_files.new.files
+    let named = named_by g.M.Names.types g.M.Names.words g.M.Names.version g.E.Disk.state c.args.journal c.end-journal.result c.pass-types_reader.result c.pass-words_reader.result c.args.order.types_saved c.args.order.words_saved c.in-Ok.store _ _ c.args.order.first c.new-merger.result c.move_files.new.merger c.args.files.now c.move_files.new.files
     c.open_store-store.ensures c.from.ensures c.new-merger.ensures.first c.new-merger.ensures.stop begin done in
     let adds_so = adds_between g.M.Names.types g.M.Names.words g.M.Names.version g.E.Disk.state c.new-merger.result c.move_files.new.merger c.args.order.second c.args.order.first (done_of c.args.order.first (length c.move_files.new.files) c.move_files.new.merger.stop) c.move_files.new.files b c.into_parts-second.result.1 c.new-merger.ensures.second c.new-merger.ensures.passes c.into_parts-second.ensures.passes named in
     let adds = subst (λ s. PassesAdd (needed_of (second_by g.M.Names.types g.M.Names.words g.M.Names.version g.E.Disk.state c.args.order.second) c.args.order.first (done_of c.args.order.first (length c.move_files.new.files) s) c.move_files.new.files) b c.into_parts-second.result.1) (sym c.into_parts-second.ensures.stop) adds_so in
