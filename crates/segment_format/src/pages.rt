@@ -91,6 +91,19 @@ pub fn open_pages<L: Ledger>(head: &Head, payload: u64, steps: &mut Steps<L>) ->
 }
 
 impl PageReader {
+    /// Another reader that stands where this one does.
+    pub fn again(&self) -> PageReader
+        ensures { result ≡ self.now }
+    {
+        PageReader {
+            start: self.start,
+            rows: self.rows,
+            variables: self.variables,
+            row: self.row,
+            variable: self.variable,
+        }
+    }
+
     /// How many rows the next page has, 0 after the last.
     fn page_rows(&self) -> u32
         ensures { result ≡ page_rows self.now }

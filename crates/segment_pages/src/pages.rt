@@ -72,6 +72,17 @@ impl SegmentPages {
         })
     }
 
+    /// Another reader that stands where this one does.
+    pub fn again(&self) -> SegmentPages
+        ensures { result ≡ self.now }
+    {
+        SegmentPages {
+            at: self.at,
+            pages: self.pages.again(),
+            passed: self.passed,
+        }
+    }
+
     /// Whether a page is left.
     pub fn has_next(&self) -> bool
         ensures yes { IsTrue result → self.now.pages.row < self.now.pages.rows }
