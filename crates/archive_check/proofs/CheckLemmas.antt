@@ -24,9 +24,10 @@ use Rattle.archive_meaning.specs.Legal.{Run}
 use Rattle.archive_meaning.proofs.RunLemmas.{one_held}
 use Rattle.archive_meaning.proofs.SpellingLemmas.{one_body}
 use Rattle.archive_meaning.proofs.UniqueLemmas.{front_joined, legal_forms}
-use Rattle.archive_check.specs.Checked.{Checked, DamagedAt, HasChecked, Stood}
+use Rattle.check_meaning.specs.Checked.{DamagedAt, Stood}
+use Rattle.archive_check.specs.Checked.{Checked, HasChecked}
 use Rattle.archive_check.specs.Taken.{Takes, TakesNone}
-use Rattle.archive_check.specs.declared.checking.Summary.{Summary}
+use Rattle.check_meaning.specs.declared.summary.Summary.{Summary}
 
 -- ---- forms of the last entry
 

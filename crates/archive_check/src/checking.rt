@@ -4,45 +4,18 @@ ghost use Rattle.log_seams.specs.Disk.{KeepsBytes, Rests};
 ghost use Rattle.log_seams.specs.Outside.{CountsOf};
 ghost use Rattle.disk_journal.specs.Place.{ClosedAt};
 ghost use Rattle.step_count.specs.Opens.{OpensFor};
-ghost use Rattle.archive_check.specs.Checked.{Checked, DamagedAt, Stood};
+ghost use Rattle.check_meaning.specs.Checked.{DamagedAt, Stood};
+ghost use Rattle.archive_check.specs.Checked.{Checked};
 
 use crate::take::take;
 use archive_core::{Judge, JudgeRefusal};
+use check_meaning::{CheckRefusal, Summary};
 use disk_journal::{Journal, LoadRefusal, StartRefusal, WalkRefusal, start};
 use log_seams::Disk;
 use std::alloc::Global;
 use std::marker::Brand;
 use std::sync::ledger::{Blank, Ledger};
 use step_count::Steps;
-use thiserror::Error;
-
-/// What a legal archive has.
-#[derive(Clone, Copy, Debug, PartialEq, Eq)]
-pub struct Summary {
-    /// How many records its journal has.
-    pub entries: u64,
-    /// How many files.
-    pub files: u64,
-    /// How many messages all files have.
-    pub messages: u64,
-}
-
-/// Why an archive did not pass its check.
-#[derive(Clone, Copy, Debug, PartialEq, Eq, Error)]
-pub enum CheckRefusal {
-    /// A call of the disk failed: its count of faults rose.
-    #[error("the disk failed")]
-    DiskFault,
-    /// The bytes are no legal archive; the first damage is at this place.
-    #[error("damaged at {at}")]
-    Damaged {
-        /// The place of the gate behind the last good record, or 0 where the header is none.
-        at: u64,
-    },
-    /// There was no memory.
-    #[error("out of memory")]
-    OutOfMemory,
-}
 
 // Why the check ends where the start refused.
 fn of_start(refusal: StartRefusal) -> CheckRefusal

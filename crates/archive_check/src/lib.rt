@@ -5,4 +5,5 @@ mod checking;
 mod segment;
 mod take;
 
-pub use checking::{CheckRefusal, Summary, check};
+pub use check_meaning::{CheckRefusal, Summary};
+pub use checking::check;

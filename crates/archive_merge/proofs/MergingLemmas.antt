@@ -36,8 +36,8 @@ use Rattle.ingest_meaning.specs.WordsIn.{words_in, words_of}
 use Rattle.disk_seal.specs.Opening.{MayOpen}
 use Rattle.disk_seal.specs.Registered.{HoldsNames}
 use Rattle.disk_seal.specs.Told.{IfTold}
-use Rattle.disk_seal.specs.declared.files.RegisterRefusal.{RegisterRefusal}
-use Rattle.disk_seal.specs.declared.files.RegisterRefusal.TheVariants.{DiskFault}
+use Rattle.ingest_meaning.specs.declared.refusal.RegisterRefusal.{RegisterRefusal}
+use Rattle.ingest_meaning.specs.declared.refusal.RegisterRefusal.TheVariants.{DiskFault}
 use Rattle.disk_seal.proofs.ToldLemmas.{told_map}
 use Rattle.ingest_workers.specs.Ingested.{HoldTexts, IsAsItWas, told_entries}
 use Rattle.ingest_workers.specs.Journal.{FrontHolds, Holds}

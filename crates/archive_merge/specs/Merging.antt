@@ -19,7 +19,7 @@ use Rattle.ingest_meaning.specs.WordsIn.{words_of}
 use Rattle.disk_seal.specs.Opening.{MayOpen}
 use Rattle.disk_seal.specs.Registered.{HoldsNames}
 use Rattle.disk_seal.specs.Told.{IfTold}
-use Rattle.disk_seal.specs.declared.files.RegisterRefusal.TheVariants.{DiskFault}
+use Rattle.ingest_meaning.specs.declared.refusal.RegisterRefusal.TheVariants.{DiskFault}
 use Rattle.ingest_workers.specs.Ingested.{told_entries}
 use Rattle.ingest_workers.specs.Journal.{FrontHolds}
 use Rattle.archive_merge.specs.declared.cause.MergeCause.TheVariants.{SecondFault}

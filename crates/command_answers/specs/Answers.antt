@@ -30,18 +30,18 @@ use Rattle.command_refusals.specs.Reading.{EndsReading, IsComplete, OverJournal}
 use Rattle.command_refusals.specs.declared.outcome.ReadRefusal.{ReadRefusal}
 use Rattle.command_refusals.specs.declared.outcome.ReadRefusal.TheVariants.{Damaged}
 use Rattle.command_answers.specs.Listing.{PrintsDirectory}
-use Rattle.archive_check.specs.Checked.{DamagedAt}
+use Rattle.check_meaning.specs.Checked.{DamagedAt}
 use Rattle.command_answers.specs.Counted.{PrintsCounts}
 use Rattle.log_seams.specs.Outside.{CountsOf, Rose}
 use Rattle.archive_meaning.specs.Held.{content_of}
 use Rattle.command_refusals.specs.declared.outcome.FileRefusal.{FileRefusal}
 use Rattle.command_refusals.specs.declared.outcome.FileRefusal.TheVariants.{Damaged as FileDamaged, DiskFault as FileDiskFault, NoSuchFile, SinkFault as FileSinkFault}
 use Rattle.command_answers.specs.Decoding.{LacksFile, IsCompleteFile, PrintsFile}
-use Rattle.search_walk.specs.Scan.{Asked}
+use Rattle.search_meaning.specs.Scan.{Asked}
 use Rattle.command_answers.specs.Searching.{PrintsFound, SparesBarren}
 use Rattle.command_answers.specs.Grouping.{PrintsGroups, grouped_by}
 use Rattle.command_words.specs.declared.command.CountKey.{CountKey}
-use Rattle.search_walk.specs.Journal.{OfJournal, asked}
+use Rattle.search_meaning.specs.Journal.{OfJournal, asked}
 use Rattle.command_answers.specs.Benched.{SumsUpAll, EndsBench, MetNoLimit}
 use Rattle.command_words.specs.Asked.{Asked as AskedFor, to_bench, to_check, to_count, to_create, to_decode, to_ingest, to_list, to_merge, to_scan, to_search, to_show, to_upgrade, AreTaken, Asks, HaveGoodValues}
 use Rattle.command_answers.specs.Shown.{Shows}

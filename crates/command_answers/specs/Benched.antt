@@ -15,8 +15,8 @@ use Rattle.archive_meaning.specs.Held.{Held, content_of}
 use Rattle.archive_meaning.specs.Stands.{StandsFor}
 use Rattle.archive_open.specs.Shown.{RefusedAt, places_of}
 use Rattle.printed_lines.specs.Lines.{Placed}
-use Rattle.search_walk.specs.Scan.{AreFound, all_placed}
-use Rattle.search_walk.specs.Journal.{OfJournal, asked}
+use Rattle.search_meaning.specs.Scan.{AreFound, all_placed}
+use Rattle.search_meaning.specs.Journal.{OfJournal, asked}
 use Rattle.disk_journal.specs.Created.{CreateLeaves}
 use Rattle.disk_journal.specs.declared.record.TheConstants.{CLOSED_GATE}
 use Rattle.disk_journal.specs.declared.refusals.CreateRefusal.{CreateRefusal}

@@ -1,8 +1,8 @@
 -- What `check` prints: the counts of a legal archive.
 use Rattle.std.specs.Prelude.{◌≡◌, ℕ, List, [], ◌∷◌, ◌++◌, Option, IfSome, Result, Ok, Err, codes}
 use Rattle.std.specs.Fmt.{decimal}
-use Rattle.archive_check.specs.Checked.{Stood}
-use Rattle.archive_check.specs.declared.checking.Summary.{Summary}
+use Rattle.check_meaning.specs.Checked.{Stood}
+use Rattle.check_meaning.specs.declared.summary.Summary.{Summary}
 use Rattle.sink_pieces.specs.Output.{Grew, GrewByFront}
 use Rattle.command_refusals.specs.declared.outcome.ReadRefusal.{ReadRefusal}
 use Rattle.command_refusals.specs.declared.outcome.ReadRefusal.TheVariants.{Damaged, DiskFault, SinkFault, OutOfMemory}

@@ -8,17 +8,17 @@ use Rattle.archive_meaning.specs.declared.entry.JournalEntry.{JournalEntry}
 use Rattle.archive_meaning.specs.Held.{Held, content_of}
 use Rattle.archive_open.specs.declared.segments.SegmentPlace.{SegmentPlace}
 use Rattle.archive_open.specs.Shown.{places_of}
-use Rattle.search_walk.specs.Opened.{AreOpened}
+use Rattle.search_meaning.specs.Opened.{AreOpened}
 use Rattle.printed_lines.specs.Lines.{Placed}
-use Rattle.search_walk.specs.Scan.{AreFound, Asked, all_placed}
-use Rattle.search_walk.specs.Journal.{OfJournal}
-use Rattle.group_count.specs.Grouped.{AreExpanded, IsGrouped, messages_of}
-use Rattle.group_count.specs.Printed.{minutes_text, types_text}
-use Rattle.group_count.specs.declared.groups.Group.{Group}
-use Rattle.group_count.specs.declared.groups.GroupBy.{GroupBy}
-use Rattle.group_count.specs.declared.groups.GroupBy.TheVariants as by
-use Rattle.group_count.specs.declared.groups.Grouped.{Grouped}
-use Rattle.group_count.specs.declared.report.GroupReport.{GroupReport}
+use Rattle.search_meaning.specs.Scan.{AreFound, Asked, all_placed}
+use Rattle.search_meaning.specs.Journal.{OfJournal}
+use Rattle.search_meaning.specs.Grouped.{AreExpanded, IsGrouped, messages_of}
+use Rattle.search_meaning.specs.GroupLines.{minutes_text, types_text}
+use Rattle.search_meaning.specs.declared.groups.Group.{Group}
+use Rattle.search_meaning.specs.declared.groups.GroupBy.{GroupBy}
+use Rattle.search_meaning.specs.declared.groups.GroupBy.TheVariants as by
+use Rattle.search_meaning.specs.declared.groups.Grouped.{Grouped}
+use Rattle.search_meaning.specs.declared.report.GroupReport.{GroupReport}
 use Rattle.command_words.specs.declared.command.CountKey.{CountKey}
 use Rattle.command_words.specs.declared.command.CountKey.TheVariants as key
 use Rattle.command_answers.specs.Searching.{found_counts}

@@ -19,7 +19,7 @@ use Rattle.archive_open.specs.Shown.{IsLastGate, RefusedAt, StandsForNone, count
 use Rattle.ingest_meaning.specs.Room.{files_size, needed_behind}
 use Rattle.ingest_meaning.specs.Parts.{in_file}
 use Rattle.ingest_meaning.specs.Dictionaries.{HasTextsBehind, IsFullBy, book_texts, header_limits, limit_of}
-use Rattle.search_walk.specs.Journal.{OfJournal}
+use Rattle.search_meaning.specs.Journal.{OfJournal}
 use Rattle.sink_pieces.specs.Output.{Grew, GrewByFront}
 use Rattle.file_lines.specs.Directory.{FileLine, directory_from, line_of_file}
 use Rattle.command_refusals.specs.Outside.{Outside}

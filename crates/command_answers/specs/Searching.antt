@@ -8,11 +8,11 @@ use Rattle.archive_meaning.specs.declared.entry.JournalEntry.{JournalEntry}
 use Rattle.archive_meaning.specs.Held.{Held, content_of}
 use Rattle.archive_open.specs.declared.segments.SegmentPlace.{SegmentPlace}
 use Rattle.archive_open.specs.Shown.{places_of}
-use Rattle.search_engine.specs.declared.report.Report.{Report}
-use Rattle.search_walk.specs.Opened.{AreOpened}
+use Rattle.search_meaning.specs.declared.report.Report.{Report}
+use Rattle.search_meaning.specs.Opened.{AreOpened}
 use Rattle.printed_lines.specs.Lines.{Placed, lines_of}
-use Rattle.search_walk.specs.Scan.{AreFound, AreTried, Asked, all_placed}
-use Rattle.search_walk.specs.Journal.{OfJournal, ReadsNoBarren}
+use Rattle.search_meaning.specs.Scan.{AreFound, AreTried, Asked, all_placed}
+use Rattle.search_meaning.specs.Journal.{OfJournal, ReadsNoBarren}
 
 -- how many messages were found, and how many expanded; how many segments were opened, and how many there are
 abbrev pub found_counts : Report → List ℕ

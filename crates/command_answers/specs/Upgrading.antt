@@ -19,7 +19,7 @@ use Rattle.archive_meaning.specs.Stands.{StandsFor}
 use Rattle.archive_open.specs.Shown.{RefusedAt, counted}
 use Rattle.ingest_meaning.specs.Room.{files_size}
 use Rattle.message_reader.specs.Versions.{MessagesOf}
-use Rattle.search_walk.specs.Journal.{OfJournal}
+use Rattle.search_meaning.specs.Journal.{OfJournal}
 use Rattle.sink_pieces.specs.Output.{GrewByFront}
 use Rattle.file_lines.specs.Directory.{directory_from, line_of_file}
 use Rattle.command_refusals.specs.Outside.{Outside}

@@ -13,7 +13,7 @@ use Rattle.archive_meaning.specs.Held.{Held}
 use Rattle.archive_meaning.specs.Stands.{StandsFor}
 use Rattle.sink_pieces.specs.Output.{Grew, GrewByFront}
 use Rattle.printed_lines.specs.Lines.{Placed, lines_of}
-use Rattle.live_search.specs.Live.{Live}
+use Rattle.search_meaning.specs.Live.{Live}
 use Rattle.file_lines.specs.Directory.{directory_from}
 use Rattle.command_refusals.specs.Outside.{Outside}
 use Rattle.command_refusals.specs.Ending.{RoseIn, SaysIn, Stayed, error_line, exit_status}

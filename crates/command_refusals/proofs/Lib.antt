@@ -1,4 +1,3 @@
-pub mod EndedLemmas
 pub mod GoingLemmas
 pub mod LongLemmas
 pub mod PatternLemmas

@@ -19,11 +19,9 @@ use Rattle.command_refusals.specs.declared.outcome.LogRefusal.TheVariants.{
 }
 use Rattle.archive_open.specs.declared.refusal.ArchiveRefusal.{ArchiveRefusal}
 use Rattle.disk_journal.specs.declared.refusals.StartRefusal.{StartRefusal}
-use Rattle.disk_seal.specs.declared.files.RegisterRefusal.{RegisterRefusal}
-use Rattle.archive_check.specs.declared.checking.CheckRefusal.{CheckRefusal}
+use Rattle.ingest_meaning.specs.declared.refusal.RegisterRefusal.{RegisterRefusal}
+use Rattle.check_meaning.specs.declared.refusal.CheckRefusal.{CheckRefusal}
 use Rattle.sink_pieces.specs.declared.refusal.PrintRefusal.{PrintRefusal}
-use Rattle.archive_decode.specs.declared.refusal.DecodeRefusal.{DecodeRefusal}
-use Rattle.search_walk.specs.declared.refusal.SearchRefusal.{SearchRefusal}
 use Rattle.command_refusals.specs.declared.outcome.AddRefusal.{AddRefusal}
 use Rattle.command_refusals.specs.declared.outcome.FileRefusal.{FileRefusal}
 use Rattle.command_refusals.specs.declared.outcome.MergeRefusal.{MergeRefusal}
@@ -97,33 +95,13 @@ abbrev pub from_print : PrintRefusal → ReadRefusal
 from_print PrintRefusal.SinkFault = ReadRefusal.SinkFault
 from_print PrintRefusal.OutOfMemory = ReadRefusal.OutOfMemory
 
--- where searching was, in an archive that is told as damaged at this place
-abbrev pub from_search : ℕ → SearchRefusal → ReadRefusal
-from_search at SearchRefusal.DiskFault = ReadRefusal.DiskFault
-from_search at SearchRefusal.SinkFault = ReadRefusal.SinkFault
-from_search at SearchRefusal.Damaged = ReadRefusal.Damaged at
-from_search at SearchRefusal.OutOfMemory = ReadRefusal.OutOfMemory
-
 -- why the bytes of a file were not printed where opening was refused
 abbrev pub file_from_archive : ArchiveRefusal → FileRefusal
 file_from_archive ArchiveRefusal.DiskFault = FileRefusal.DiskFault
 file_from_archive (ArchiveRefusal.Damaged at) = FileRefusal.Damaged at
 file_from_archive ArchiveRefusal.OutOfMemory = FileRefusal.OutOfMemory
 
--- and where decoding was, in an archive that is told as damaged at this place
-abbrev pub from_decode : ℕ → DecodeRefusal → FileRefusal
-from_decode at DecodeRefusal.DiskFault = FileRefusal.DiskFault
-from_decode at DecodeRefusal.Damaged = FileRefusal.Damaged at
-from_decode at DecodeRefusal.SinkFault = FileRefusal.SinkFault
-from_decode at DecodeRefusal.OutOfMemory = FileRefusal.OutOfMemory
-
--- why no file was added where the check of the archive was refused,
--- the reading of its header, the opening, and the naming of the files
-abbrev pub add_from_check : CheckRefusal → AddRefusal
-add_from_check CheckRefusal.DiskFault = AddRefusal.DiskFault
-add_from_check (CheckRefusal.Damaged at) = AddRefusal.Damaged at
-add_from_check CheckRefusal.OutOfMemory = AddRefusal.OutOfMemory
-
+-- why no file was added where the reading of the archive's header was refused, the opening, and the naming of the files
 abbrev pub add_from_start : StartRefusal → AddRefusal
 add_from_start StartRefusal.DiskFault = AddRefusal.DiskFault
 add_from_start (StartRefusal.Damaged at) = AddRefusal.Damaged at

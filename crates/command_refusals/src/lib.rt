@@ -20,6 +20,6 @@ pub use into_refusal::{
 };
 pub use outcome::{
     AddRefusal, FileRefusal, LogRefusal, MergeRefusal, PartCause, ReadRefusal, UpgradeRefusal,
-    of_decode, of_search, of_second,
+    of_second,
 };
 pub use refusal::{Refusal, report, report_file};

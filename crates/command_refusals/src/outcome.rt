@@ -4,16 +4,14 @@ ghost use Rattle.command_refusals.specs.declared.outcome.AddRefusal.TheVariants.
 ghost use Rattle.command_refusals.specs.declared.outcome.MergeRefusal.TheVariants.{OutOfMemory as MergeOutOfMemory};
 ghost use Rattle.command_refusals.specs.declared.outcome.ReadRefusal.TheVariants.{OutOfMemory, SinkFault};
 ghost use Rattle.command_refusals.specs.declared.outcome.UpgradeRefusal.TheVariants.{OutOfMemory as UpgradeOutOfMemory};
-ghost use Rattle.command_refusals.specs.Outcome.{add_from_archive, add_from_check, add_from_register, add_from_start, file_from_archive, from_archive, from_check, from_decode, from_print, from_search, merge_from_archive, merge_from_register, merge_from_second, merge_from_start, upgrade_from_archive, upgrade_from_create, upgrade_from_register};
+ghost use Rattle.command_refusals.specs.Outcome.{add_from_archive, add_from_register, add_from_start, file_from_archive, from_archive, from_check, from_print, merge_from_archive, merge_from_register, merge_from_second, merge_from_start, upgrade_from_archive, upgrade_from_create, upgrade_from_register};
 
-use archive_check::CheckRefusal;
-use archive_decode::DecodeRefusal;
 use archive_open::ArchiveRefusal;
+use check_meaning::CheckRefusal;
 use disk_journal::{CreateRefusal, StartRefusal};
-use disk_seal::RegisterRefusal;
+use ingest_meaning::RegisterRefusal;
 use log_seams::Failed;
 use row_codec::Which;
-use search_walk::SearchRefusal;
 use sink_pieces::PrintRefusal;
 use std::alloc::AllocError;
 
@@ -98,18 +96,6 @@ impl From<PrintRefusal> for ReadRefusal {
     }
 }
 
-/// The refusal of a search, in an archive that is told as damaged at this place.
-pub fn of_search(refusal: SearchRefusal, at: u64) -> ReadRefusal
-    ensures { result ≡ from_search at refusal }
-{
-    match refusal {
-        SearchRefusal::DiskFault => ReadRefusal::DiskFault,
-        SearchRefusal::SinkFault => ReadRefusal::SinkFault,
-        SearchRefusal::Damaged => ReadRefusal::Damaged { at },
-        SearchRefusal::OutOfMemory => ReadRefusal::OutOfMemory,
-    }
-}
-
 /// Why the bytes of a file were not printed.
 #[derive(Clone, Copy, Debug, PartialEq, Eq)]
 pub enum FileRefusal {
@@ -137,18 +123,6 @@ impl From<ArchiveRefusal> for FileRefusal {
     }
 }
 
-/// The refusal of a decoding, in an archive that is told as damaged at this place.
-pub fn of_decode(refusal: DecodeRefusal, at: u64) -> FileRefusal
-    ensures { result ≡ from_decode at refusal }
-{
-    match refusal {
-        DecodeRefusal::DiskFault => FileRefusal::DiskFault,
-        DecodeRefusal::Damaged => FileRefusal::Damaged { at },
-        DecodeRefusal::SinkFault => FileRefusal::SinkFault,
-        DecodeRefusal::OutOfMemory => FileRefusal::OutOfMemory,
-    }
-}
-
 /// Why no file was added to an archive.
 #[derive(Clone, Copy, Debug, PartialEq, Eq)]
 pub enum AddRefusal {
@@ -171,18 +145,6 @@ impl From<AllocError> for AddRefusal {
 
     fn from(_: AllocError) -> Self {
         AddRefusal::OutOfMemory
-    }
-}
-
-impl From<CheckRefusal> for AddRefusal {
-    ghost from_gives = { λ r e. e ≡ add_from_check r };
-
-    fn from(refusal: CheckRefusal) -> Self {
-        match refusal {
-            CheckRefusal::DiskFault => AddRefusal::DiskFault,
-            CheckRefusal::Damaged { at } => AddRefusal::Damaged { at },
-            CheckRefusal::OutOfMemory => AddRefusal::OutOfMemory,
-        }
     }
 }
 

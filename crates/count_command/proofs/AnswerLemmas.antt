@@ -4,8 +4,8 @@ use Rattle.std.specs.Prelude.{is_ok}
 use Rattle.log_seams.specs.Disk.{DiskState, KeepsBytes}
 use Rattle.log_seams.specs.Outside.{CountsOf}
 use Rattle.archive_open.specs.Shown.{RefusedAt}
-use Rattle.search_walk.specs.Scan.{Asked}
-use Rattle.search_walk.specs.Journal.{asked}
+use Rattle.search_meaning.specs.Scan.{Asked}
+use Rattle.search_meaning.specs.Journal.{asked}
 use Rattle.column_store.specs.declared.range.Range.{Range}
 use Rattle.wild_match.specs.Reading.{IsLoneBackslash, IsSearchPattern}
 use Rattle.wild_match.specs.declared.pattern.Item.{Item}

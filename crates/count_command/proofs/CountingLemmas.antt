@@ -6,11 +6,11 @@ use Rattle.record_format.specs.declared.header.Header.{Header}
 use Rattle.archive_meaning.specs.declared.entry.JournalEntry.{JournalEntry}
 use Rattle.archive_meaning.specs.Held.{Held}
 use Rattle.archive_open.specs.Shown.{Misses, ReadsAside, Spares}
-use Rattle.search_walk.specs.Scan.{Asked}
-use Rattle.search_walk.specs.Journal.{MissesBarren, OfJournal, ReadsNoBarren}
+use Rattle.search_meaning.specs.Scan.{Asked}
+use Rattle.search_meaning.specs.Journal.{MissesBarren, OfJournal, ReadsNoBarren}
 use Rattle.group_count.specs.Grouped.{HasGrouped}
-use Rattle.group_count.specs.declared.groups.GroupBy.{GroupBy}
-use Rattle.group_count.specs.declared.groups.Grouped.{Grouped}
+use Rattle.search_meaning.specs.declared.groups.GroupBy.{GroupBy}
+use Rattle.search_meaning.specs.declared.groups.Grouped.{Grouped}
 use Rattle.command_answers.specs.Grouping.{IsCounted, PrintsGroups, TellsGroups, grouped_text}
 use Rattle.command_answers.specs.Searching.{SparesBarren}
 

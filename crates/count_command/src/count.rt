@@ -5,7 +5,7 @@ ghost use Rattle.log_seams.specs.Outside.{CountsOf};
 ghost use Rattle.step_count.specs.Opens.{OpensFor};
 ghost use Rattle.query_plan.specs.Laws.{IsSearched};
 ghost use Rattle.archive_open.specs.Shown.{RefusedAt};
-ghost use Rattle.search_walk.specs.Journal.{OfJournal, asked};
+ghost use Rattle.search_meaning.specs.Journal.{OfJournal, asked};
 ghost use Rattle.command_refusals.specs.GoesOn.{DiskGoesOn};
 ghost use Rattle.command_refusals.specs.Outside.{AroundSinks};
 ghost use Rattle.command_answers.specs.Answers.{AnswersCount};
@@ -16,12 +16,13 @@ use crate::text::{group_by, text_of};
 use archive_places::open_places;
 use column_store::Range;
 use command_refusals::{
-    ReadRefusal, answer, of_search, refusal_of_pattern, refusal_of_read, report,
+    ReadRefusal, answer, refusal_of_pattern, refusal_of_read, report,
 };
 use command_words::CountWords;
 use group_count::{GroupBy, Grouped, group};
 use log_seams::{Disk, Sink};
 use query_plan::wide_is_wider;
+use search_refusals::of_search;
 use sink_pieces::write_all;
 use std::alloc::Global;
 use std::marker::Brand;

@@ -7,37 +7,13 @@ ghost use Rattle.disk_journal.specs.Calls.{GoesOn, IsPast, LeavesBeforeOrAfter, 
 ghost use Rattle.archive_meaning.specs.Sums.{AddsNames};
 ghost use Rattle.ingest_meaning.specs.Room.{files_record, files_size};
 ghost use Rattle.disk_seal.specs.Registered.{HasRegistered, IsFullFor};
-ghost use Rattle.disk_seal.specs.declared.files.RegisterRefusal.TheVariants.{OutOfMemory};
 
 use disk_journal::{AppendRefusal, Journal, frame};
+use ingest_meaning::RegisterRefusal;
 use log_seams::Disk;
 use plain_list::TextList;
 use record_format::{FILES_KIND, write_files};
-use std::alloc::{AllocError, Global};
-use thiserror::Error;
-
-/// Why files got no numbers.
-#[derive(Clone, Copy, Debug, PartialEq, Eq, Error)]
-pub enum RegisterRefusal {
-    /// There was no memory.
-    #[error("out of memory")]
-    OutOfMemory,
-    /// The record does not fit the archive's limit of length: its end is `end`, and the record needs `need`
-    /// bytes.
-    #[error("full at {end}, which {need} bytes more do not fit")]
-    ArchiveFull { end: u64, need: u64 },
-    /// A call of the disk failed: its count of faults rose. Nothing more is to be appended to the journal.
-    #[error("the disk failed")]
-    DiskFault,
-}
-
-impl From<AllocError> for RegisterRefusal {
-    ghost from_gives = { λ _ e. e ≡ OutOfMemory };
-
-    fn from(_: AllocError) -> Self {
-        RegisterRefusal::OutOfMemory
-    }
-}
+use std::alloc::Global;
 
 /// Appends the names of further files to a journal at its end, and answers the number of the first of them,
 /// which is how many names the archive `held`. `ArchiveFull` exactly where the record goes past the limit

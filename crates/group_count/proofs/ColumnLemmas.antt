@@ -17,12 +17,12 @@ use Rattle.segment_pages.specs.Paged.{HoldsLeft, HoldsNoneTold, OfRows, Paged, R
 use Rattle.segment_pages.specs.Laws.{LeftAreCounted}
 use Rattle.segment_pages.proofs.ReadLemmas.{none_within, reads_on}
 use Rattle.printed_lines.specs.Lines.{Picks, Placed, numbered}
-use Rattle.search_walk.specs.Scan.{Asked, IsFound}
+use Rattle.search_meaning.specs.Scan.{Asked, IsFound}
 use Rattle.search_walk.specs.Held.{AreRowsOf, Named}
 use Rattle.search_walk.specs.Walked.{PagesGone, PastTold}
 use Rattle.search_walk.proofs.PagesReadLemmas.{rests_same}
 use Rattle.search_walk.proofs.RowLemmas.{in_range}
-use Rattle.group_count.specs.Grouped.{IsExpanded, messages_of}
+use Rattle.search_meaning.specs.Grouped.{IsExpanded, messages_of}
 use Rattle.group_count.specs.Laws.{minutes_of}
 use Rattle.group_count.specs.StepsCounted.{Adds, Counted, Passes, Sofar}
 use Rattle.group_count.specs.StepsServed.{FindsAll, IsWay}

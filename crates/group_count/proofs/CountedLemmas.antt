@@ -22,11 +22,11 @@ use Rattle.search_walk.specs.Held.{AreRowsOf, Named}
 use Rattle.search_walk.specs.Judged.{Judges as JudgesText}
 use Rattle.search_walk.specs.Ready.{IsDecided, IsLent}
 use Rattle.printed_lines.specs.Lines.{Placed, numbered, placed}
-use Rattle.search_walk.specs.Scan.{Asked, IsFound, IsInRange, IsTried}
+use Rattle.search_meaning.specs.Scan.{Asked, IsFound, IsInRange, IsTried}
 use Rattle.printed_lines.proofs.LineLemmas.{numbered_append}
 use Rattle.search_walk.proofs.RowLemmas.{in_range, next_row, none_left}
 use Rattle.search_walk.proofs.VerdictLemmas.{decided_inside, lent_canonical, lent_has, lent_spelling}
-use Rattle.group_count.specs.Grouped.{IsExpanded}
+use Rattle.search_meaning.specs.Grouped.{IsExpanded}
 use Rattle.group_count.specs.Judged.{Judges}
 use Rattle.group_count.specs.StepsCounted.{Adds, Passes, Sofar, Stops, judged_more, judged_rows}
 use Rattle.group_count.specs.StepsGoing.{adds_none, passes_none, passes_on, stops_behind, stops_same}

@@ -2,8 +2,8 @@
 use Rattle.std.proofs.Common.{◌≡◌, inl, inr, ℕ, List, [], ◌∷◌}
 use Rattle.query_plan.specs.Laws.{IsPlain}
 use Rattle.printed_lines.specs.Lines.{Placed}
-use Rattle.search_walk.specs.Scan.{AreTried, Asked}
-use Rattle.group_count.specs.Grouped.{AreExpanded}
+use Rattle.search_meaning.specs.Scan.{AreTried, Asked}
+use Rattle.search_meaning.specs.Grouped.{AreExpanded}
 
 pub none_plain : (version : ℕ) (q : Asked) (all expansions : List Placed) → IsPlain q.pattern → AreExpanded version q all expansions → expansions ≡ []
 none_plain version q [] expansions plain are = are

@@ -13,7 +13,7 @@ use Rattle.std.proofs.lemmas.List.Elements.{All-map}
 use Rattle.std.proofs.lemmas.List.{map-append}
 use Rattle.std.proofs.lemmas.Option.{slice_get-get_or}
 use Rattle.std.proofs.lemmas.Map.Entries.{btree_map_get_place}
-use Rattle.group_count.specs.Groups.{AreGroups, how_often}
+use Rattle.search_meaning.specs.Groups.{AreGroups, how_often}
 use Rattle.group_count.specs.Tables.{IsTally, some_of}
 use Rattle.group_count.proofs.CountLemmas.{count_some}
 

@@ -13,17 +13,18 @@ use Rattle.archive_places.specs.declared.places.Places.{Places}
 use Rattle.archive_places.specs.Opened.{ArePlacesOf, OpensPlaces}
 use Rattle.column_store.specs.declared.row.Row.{Row}
 use Rattle.row_codec.specs.Means.{IsCanonical}
-use Rattle.search_walk.specs.Journal.{OfJournal}
-use Rattle.search_walk.specs.Opened.{IsBarrenFor}
+use Rattle.search_meaning.specs.Journal.{OfJournal}
+use Rattle.search_meaning.specs.Opened.{IsBarrenFor}
 use Rattle.printed_lines.specs.Lines.{Placed}
-use Rattle.search_walk.specs.Scan.{Asked, IsFound, all_placed}
+use Rattle.search_meaning.specs.Scan.{Asked, IsFound, all_placed}
 use Rattle.search_walk.proofs.PickLemmas.{picks_once, picks_short}
 use Rattle.group_count.specs.declared.archive_counting.Gone.{Gone}
-use Rattle.group_count.specs.declared.groups.GroupBy.{GroupBy}
-use Rattle.group_count.specs.declared.groups.GroupBy.TheVariants.{Minute, Shape}
-use Rattle.group_count.specs.declared.groups.Grouped.{Grouped}
-use Rattle.group_count.specs.Grouped.{HasGrouped, HasStoppedCounting, IsExpanded, IsGrouped, messages_of}
-use Rattle.group_count.specs.Groups.{AreGroups, by_key, by_moment, byte_order, stamped}
+use Rattle.search_meaning.specs.declared.groups.GroupBy.{GroupBy}
+use Rattle.search_meaning.specs.declared.groups.GroupBy.TheVariants.{Minute, Shape}
+use Rattle.search_meaning.specs.declared.groups.Grouped.{Grouped}
+use Rattle.search_meaning.specs.Grouped.{IsExpanded, IsGrouped, messages_of}
+use Rattle.group_count.specs.Grouped.{HasGrouped, HasStoppedCounting}
+use Rattle.search_meaning.specs.Groups.{AreGroups, by_key, by_moment, byte_order, stamped}
 use Rattle.group_count.specs.Laws.{RowsHaveMinutes, RowsHaveTypes, minutes_of, numbers_of}
 use Rattle.group_count.specs.declared.counts.Counts.{Counts}
 use Rattle.group_count.specs.StepsArchive.{HasCounted, reported}

@@ -12,7 +12,7 @@ use Rattle.logtype_text.specs.TypeText.{type_text}
 use Rattle.column_store.specs.declared.row.Row.{Row}
 use Rattle.row_codec.specs.Means.{AreCanonical, IsCanonical}
 use Rattle.row_codec.specs.Messages.{IsTypeOf}
-use Rattle.group_count.specs.Groups.{HaveMinutes, HaveTypes, minute_len, minute_of}
+use Rattle.search_meaning.specs.Groups.{HaveMinutes, HaveTypes, minute_len, minute_of}
 use Rattle.group_count.specs.Laws.{minutes_of, numbers_of}
 use Rattle.group_count.specs.Tables.{minute_at, texts_at}
 

@@ -5,8 +5,8 @@ use Rattle.std.specs.Map.{lookup}
 use Rattle.std.specs.Ordering.{int_cmp, is_eq}
 use Rattle.std.proofs.lemmas.Cmp.{int_cmp_total, tied_itself}
 use Rattle.std.proofs.lemmas.List.Sums.{count_by-le-length, sum_by_push}
-use Rattle.group_count.specs.declared.groups.Group.{Group}
-use Rattle.group_count.specs.Groups.{AreGroups, by_moment, how_often, stamped}
+use Rattle.search_meaning.specs.declared.groups.Group.{Group}
+use Rattle.search_meaning.specs.Groups.{AreGroups, by_moment, how_often, stamped}
 use Rattle.group_count.specs.Tables.{AreMinutes, AreTallied, HoldMinutes, MinuteState, is_minute, minute_at, minute_entries, some_of, start_of}
 use Rattle.group_count.proofs.CountLemmas.{count_cons}
 use Rattle.group_count.proofs.GroupLemmas.{tally_groups}

@@ -6,7 +6,7 @@ use Rattle.logtype_text.specs.declared.symbols.Kind.TheVariants.{Whole, Word, De
 use Rattle.logtype_text.specs.declared.symbols.Symbol.{Symbol}
 use Rattle.logtype_text.specs.declared.symbols.Symbol.TheVariants.{Byte, Slot}
 use Rattle.logtype_text.specs.TypeText.{is_escaped, text_of_symbol, type_text}
-use Rattle.group_count.specs.Printed.{shape_from, shape_of, shape_of_symbol, shape_of_symbols}
+use Rattle.search_meaning.specs.GroupLines.{shape_from, shape_of, shape_of_symbol, shape_of_symbols}
 
 -- a byte that needs no escape is shown as it is
 plain_byte : (b : ℕ) (rest : List ℕ) → is_escaped b ≡ false → shape_from false (b ∷ rest) ≡ b ∷ shape_from false rest

@@ -8,8 +8,8 @@ use Rattle.std.proofs.lemmas.Bool.Decides.{nat_tests}
 use Rattle.std.proofs.lemmas.List.{get_or_past}
 use Rattle.std.proofs.lemmas.List.Elements.{All-cons, All-head, All-nil, All-tail}
 use Rattle.std.proofs.lemmas.List.Sums.{count_by-le-length}
-use Rattle.group_count.specs.Groups.{AreGroups, by_key, byte_order, how_often}
-use Rattle.group_count.specs.declared.groups.Group.{Group}
+use Rattle.search_meaning.specs.Groups.{AreGroups, by_key, byte_order, how_often}
+use Rattle.search_meaning.specs.declared.groups.Group.{Group}
 use Rattle.group_count.specs.StepsTypes.{often_below}
 use Rattle.group_count.specs.Tables.{AreCounts, AreNumbered, AreTypes, HoldTypes, IsTextTally, TypeState, some_of, text_entries, text_order, texts_at}
 use Rattle.std.proofs.lemmas.Cmp.{nat_list_cmp_total}

@@ -11,9 +11,9 @@ use Rattle.archive_places.specs.Fronts.{front_of_place}
 use Rattle.archive_places.specs.Laws.{HeadsStand, WordsStand}
 use Rattle.archive_places.specs.Opened.{OpensPlaces}
 use Rattle.search_walk.specs.Held.{AreRowsOf, Named, OfLeft, OfSegments}
-use Rattle.search_walk.specs.Journal.{OfJournal}
+use Rattle.search_meaning.specs.Journal.{OfJournal}
 use Rattle.printed_lines.specs.Lines.{Placed, numbered}
-use Rattle.search_walk.specs.Scan.{Asked}
+use Rattle.search_meaning.specs.Scan.{Asked}
 use Rattle.search_walk.specs.Walked.{PastTold, Searched, SearchedFronts, Stopped, StoppedFronts}
 use Rattle.search_walk.proofs.GroupLemmas.{content_small}
 use Rattle.search_walk.proofs.JournalLemmas.{Knows, of_journal}

@@ -6,10 +6,10 @@ use Rattle.column_store.specs.declared.row.Row.{Row}
 use Rattle.row_codec.specs.Means.{AreCanonical}
 use Rattle.query_plan.specs.Laws.{IsPlain}
 use Rattle.printed_lines.specs.Lines.{Placed}
-use Rattle.search_walk.specs.Scan.{AreTried, Asked}
-use Rattle.group_count.specs.Grouped.{AreExpanded}
-use Rattle.group_count.specs.Groups.{HaveMinutes, HaveTypes}
-use Rattle.group_count.specs.Printed.{shape_of, shape_of_symbols}
+use Rattle.search_meaning.specs.Scan.{AreTried, Asked}
+use Rattle.search_meaning.specs.Grouped.{AreExpanded}
+use Rattle.search_meaning.specs.Groups.{HaveMinutes, HaveTypes}
+use Rattle.search_meaning.specs.GroupLines.{shape_of, shape_of_symbols}
 use Rattle.group_count.specs.Tables.{minute_at, texts_at}
 
 -- the numbers of the rows' log types

@@ -1,8 +1,6 @@
 pub mod Grouped
-pub mod Groups
 pub mod Judged
 pub mod Laws
-pub mod Printed
 pub mod Refused
 pub mod StepsArchive
 pub mod StepsCounted

@@ -7,13 +7,13 @@ use Rattle.archive_open.specs.declared.segments.SegmentPlace.{SegmentPlace}
 use Rattle.column_store.specs.declared.row.Row.{Row}
 use Rattle.row_codec.specs.Means.{AreCanonical}
 use Rattle.printed_lines.specs.Lines.{Placed}
-use Rattle.search_walk.specs.Scan.{AreFound, Asked, all_placed}
-use Rattle.search_walk.specs.Opened.{AreOpened}
-use Rattle.search_walk.specs.Journal.{AreSegmentsOf}
+use Rattle.search_meaning.specs.Scan.{AreFound, Asked, all_placed}
+use Rattle.search_meaning.specs.Opened.{AreOpened}
+use Rattle.search_meaning.specs.Journal.{AreSegmentsOf}
 use Rattle.group_count.specs.declared.archive_counting.Gone.{Gone}
 use Rattle.group_count.specs.declared.counts.Counts.{Counts}
-use Rattle.group_count.specs.declared.report.GroupReport.{GroupReport}
-use Rattle.group_count.specs.Grouped.{AreExpanded, messages_of}
+use Rattle.search_meaning.specs.declared.report.GroupReport.{GroupReport}
+use Rattle.search_meaning.specs.Grouped.{AreExpanded, messages_of}
 use Rattle.group_count.specs.StepsCounted.{Adds, Sofar}
 
 -- the counts of the work

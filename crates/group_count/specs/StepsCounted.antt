@@ -5,10 +5,10 @@ use Rattle.row_codec.specs.Means.{AreCanonical}
 use Rattle.search_walk.specs.declared.query.Judgement.{Judgement}
 use Rattle.search_walk.specs.declared.query.Judgement.TheVariants.{Left, Tried, Found}
 use Rattle.printed_lines.specs.Lines.{Placed}
-use Rattle.search_walk.specs.Scan.{AreFound, Asked}
+use Rattle.search_meaning.specs.Scan.{AreFound, Asked}
 use Rattle.search_walk.specs.Held.{Named}
 use Rattle.group_count.specs.declared.counts.Counts.{Counts}
-use Rattle.group_count.specs.Grouped.{AreExpanded, messages_of}
+use Rattle.search_meaning.specs.Grouped.{AreExpanded, messages_of}
 
 -- the table, how many messages were found and how many expanded, and the ticks of those that were expanded
 pub record Sofar (T : Type 0) : Type 0 where

@@ -5,11 +5,11 @@ use Rattle.std.proofs.lemmas.List.{append-nil, append_assoc, map-append}
 use Rattle.column_store.specs.declared.row.Row.{Row}
 use Rattle.row_codec.specs.Means.{AreCanonical, IsCanonical}
 use Rattle.printed_lines.specs.Lines.{Picks, Placed}
-use Rattle.search_walk.specs.Scan.{Asked, IsFound, IsTried}
+use Rattle.search_meaning.specs.Scan.{Asked, IsFound, IsTried}
 use Rattle.search_walk.specs.Held.{Named}
 use Rattle.printed_lines.proofs.LineLemmas.{picks_append}
 use Rattle.search_walk.proofs.PickLemmas.{picks_once, picks_split}
-use Rattle.group_count.specs.Grouped.{IsExpanded, messages_of}
+use Rattle.search_meaning.specs.Grouped.{IsExpanded, messages_of}
 use Rattle.group_count.specs.StepsCounted.{Adds, Counted, Passes, Sofar, Stops}
 
 -- ---- numbers and rows

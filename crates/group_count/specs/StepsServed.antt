@@ -5,7 +5,7 @@ use Rattle.wild_match.specs.Matches.{Match}
 use Rattle.word_places.specs.Held.{HeldNames}
 use Rattle.query_plan.specs.Laws.{IsPlain}
 use Rattle.search_walk.specs.Ready.{Serves}
-use Rattle.search_walk.specs.Scan.{Asked}
+use Rattle.search_meaning.specs.Scan.{Asked}
 use Rattle.search_walk.specs.StepsScope.{Scope}
 use Rattle.group_count.specs.declared.way.Way.{Way}
 

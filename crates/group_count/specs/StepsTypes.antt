@@ -1,7 +1,7 @@
 -- How far the texts of log types are counted on the way through their numbers.
 use Rattle.std.specs.Prelude.{ℕ, ◌&&◌, nat_lt, List, [], count_by, slice_index_or}
 use Rattle.std.specs.Ordering.{is_eq}
-use Rattle.group_count.specs.Groups.{byte_order}
+use Rattle.search_meaning.specs.Groups.{byte_order}
 
 -- how many of the numbers are below a place and have this text
 abbrev pub often_below : List (List ℕ) → List ℕ → ℕ → List ℕ → ℕ

@@ -7,7 +7,7 @@ use Rattle.std.specs.Map.{lookup}
 use Rattle.std.specs.Int.{int_rem_euclid, saturate_signed, w64}
 use Rattle.std.specs.declared.cmp.Ordering.{Ordering}
 use Rattle.std.specs.Ordering.{int_cmp, is_eq}
-use Rattle.group_count.specs.Groups.{byte_order}
+use Rattle.search_meaning.specs.Groups.{byte_order}
 
 -- each place of the counts has how often its number stands among the numbers, unless they are very many
 abbrev pub AreCounts : List ℕ → List ℕ → Type 0

@@ -5,7 +5,7 @@ ghost use Rattle.log_seams.specs.Outside.{CountsOf};
 ghost use Rattle.query_plan.specs.Laws.{IsSearched};
 ghost use Rattle.archive_places.specs.Opened.{OpensPlaces};
 ghost use Rattle.word_places.specs.Places.{AreInOrder};
-ghost use Rattle.search_walk.specs.Journal.{OfJournal, ReadsNoBarren};
+ghost use Rattle.search_meaning.specs.Journal.{OfJournal, ReadsNoBarren};
 ghost use Rattle.group_count.specs.Grouped.{HasStoppedCounting};
 ghost use Rattle.group_count.specs.StepsArchive.{HasCounted};
 ghost use Rattle.group_count.specs.StepsCounted.{sofar};

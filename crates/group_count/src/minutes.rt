@@ -2,12 +2,12 @@
 ghost use Rattle.std.specs.Prelude.{◌≡◌, ℕ, ℤ, ◌+◌, ◌<◌, ◌^◌, ◌++◌, List, [], ◌∷◌, length, count_by, cond, is_none, slice_get, All, IfOk, OnOk, Option, Some};
 ghost use Rattle.std.specs.BTreeMap.{IsOrdered};
 ghost use Rattle.std.specs.Ordering.{int_cmp, is_eq};
-ghost use Rattle.group_count.specs.Groups.{AreGroups, by_moment, stamped};
+ghost use Rattle.search_meaning.specs.Groups.{AreGroups, by_moment, stamped};
 ghost use Rattle.group_count.specs.Tables.{AreMinutes, IsTally, minute_at, minute_entries, minutes_at, start_of};
 
-use crate::groups::{Group, GroupList};
 use crate::tally::add_to;
 use plain_list::Text;
+use search_meaning::{Group, GroupList};
 use std::alloc::{AllocError, Global};
 use std::collections::BTreeMap;
 use std::marker::Model;

@@ -1,9 +1,9 @@
 //! The lines that are printed of groups.
 ghost use Rattle.std.specs.Prelude.{◌≡◌, ◌≢◌, ◌<◌, ◌≤◌, ◌++◌, [], flat_map, length, true, IfOk, OnOk};
-ghost use Rattle.group_count.specs.Printed.{minute_line, minutes_text, none_line, shape_from, shape_of, type_line, types_text};
+ghost use Rattle.search_meaning.specs.GroupLines.{minute_line, minutes_text, none_line, shape_from, shape_of, type_line, types_text};
 
-use crate::groups::{Group, GroupList};
 use logtype_text::plain_front;
+use search_meaning::{Group, GroupList};
 use std::alloc::AllocError;
 
 // Stands before a constant byte of a log type's text that would stand for a slot, or is this byte.

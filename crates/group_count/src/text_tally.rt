@@ -2,14 +2,14 @@
 ghost use Rattle.std.specs.Prelude.{◌≡◌, ℕ, ◌+◌, ◌<◌, ◌≤◌, ◌^◌, List, [], pos, length, slice_index_or, cond, All, IfOk, IsErrOf, OnOk};
 ghost use Rattle.std.specs.BTreeMap.{IsEmpty, IsOrdered};
 ghost use Rattle.std.specs.Ordering.{is_eq};
-ghost use Rattle.group_count.specs.Groups.{by_key, byte_order, how_often};
+ghost use Rattle.search_meaning.specs.Groups.{by_key, byte_order, how_often};
 ghost use Rattle.group_count.specs.Tables.{AreCounts, AreNumbered, IsTextTally, text_order, texts_at, text_entries};
 
-use crate::groups::{Group, GroupList};
 use crate::refusal::TableRefusal;
 use crate::tally::add_to;
 use plain_list::Text;
 use row_codec::Names;
+use search_meaning::{Group, GroupList};
 use std::alloc::{AllocError, Global};
 use std::collections::BTreeMap;
 

@@ -1,12 +1,12 @@
 //! Messages counted by the number of their log type.
 ghost use Rattle.std.specs.Prelude.{◌≡◌, ℕ, ◌<◌, ◌≤◌, ◌^◌, ◌++◌, List, [], ◌∷◌, pos, length, slice_index_or, All, IfOk, IsErrOf, IsOk, OnOk};
-ghost use Rattle.group_count.specs.Groups.{AreGroups, by_key, byte_order};
+ghost use Rattle.search_meaning.specs.Groups.{AreGroups, by_key, byte_order};
 ghost use Rattle.group_count.specs.Tables.{AreCounts, AreNumbered, AreTypes, HoldTypes, texts_at};
 
-use crate::groups::GroupList;
 use crate::refusal::TableRefusal;
 use crate::text_tally::{groups_of, tally_texts};
 use row_codec::Names;
+use search_meaning::GroupList;
 use std::alloc::{AllocError, Global};
 use std::collections::BTreeMap;
 use std::marker::Model;

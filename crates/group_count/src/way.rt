@@ -1,6 +1,6 @@
 //! By what it is told which messages are found.
 ghost use Rattle.std.specs.Prelude.{◌≡◌, IfOk, IsTrue, false, is_some};
-ghost use Rattle.search_walk.specs.Journal.{asked};
+ghost use Rattle.search_meaning.specs.Journal.{asked};
 ghost use Rattle.group_count.specs.StepsServed.{IsWay};
 ghost use Rattle.group_count.specs.StepsWay.{AreMany};
 

@@ -29,7 +29,7 @@ use Rattle.printed_lines.proofs.LineLemmas.{lines_joined}
 use Rattle.live_search.specs.declared.refusal.LiveRefusal.{LiveRefusal}
 use Rattle.live_search.specs.declared.refusal.LiveRefusal.TheVariants.{DiskFault, SinkFault, Damaged, OutOfMemory}
 use Rattle.live_search.specs.Handled.{Begins, GoesPast, Handles, Leaves, Meets, MeetsNone}
-use Rattle.live_search.specs.Live.{Live}
+use Rattle.search_meaning.specs.Live.{Live}
 use Rattle.live_search.specs.Looking.{FindsMore, IsGateOfCount, NothingTold}
 use Rattle.live_search.specs.Reader.{HasGone, LiveStands, LiveView, has_halted, live_follower}
 use Rattle.live_search.specs.Taken.{Takes}

@@ -30,7 +30,7 @@ use Rattle.pair_sieve.specs.Sieve.{Knows, SieveView, Tells}
 use Rattle.pair_sieve.proofs.SieveLemmas.{tells_longer}
 use Rattle.printed_lines.specs.Lines.{Placed, numbered}
 use Rattle.live_search.specs.Handled.{GoesPast, Handles, HasBegun, Meets, MeetsNone, Reached}
-use Rattle.live_search.specs.Live.{Brings}
+use Rattle.search_meaning.specs.Live.{Brings}
 use Rattle.live_search.specs.Part.{HoldsNoPart, HoldsPart, IsPayloadOf}
 use Rattle.printed_lines.specs.Printed.{HasPrinted, HasPrintedFront}
 

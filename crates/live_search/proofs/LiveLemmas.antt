@@ -9,7 +9,7 @@ use Rattle.archive_meaning.specs.Held.{Held}
 use Rattle.archive_meaning.specs.Legal.{Accepts, Run}
 use Rattle.printed_lines.specs.Lines.{Placed, numbered}
 use Rattle.printed_lines.proofs.MatchLemmas.{some_matched}
-use Rattle.live_search.specs.Live.{Brings, Live}
+use Rattle.search_meaning.specs.Live.{Brings, Live}
 
 -- what is held at the end is what the entries hold
 pub live_runs : (h : Header) (pattern : List Item) (held end : Held) (es : List JournalEntry) (found : List Placed) → Live h pattern held es found end → Run h held es end

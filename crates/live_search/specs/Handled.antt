@@ -13,7 +13,7 @@ use Rattle.pair_sieve.specs.Sieve.{Knows, SieveView, Tells}
 use Rattle.printed_lines.specs.Lines.{Placed, lines_of}
 use Rattle.sink_pieces.specs.Output.{Grew, GrewByFront}
 use Rattle.live_search.specs.declared.progress.Progress.{Progress}
-use Rattle.live_search.specs.Live.{Brings}
+use Rattle.search_meaning.specs.Live.{Brings}
 
 -- what is kept of the entries so far, what is searched for, what its sieve tells, how many entries the reader began with and how
 -- many it has handled, and the gate behind these

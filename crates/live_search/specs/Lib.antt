@@ -1,5 +1,4 @@
 pub mod Refused
-pub mod Live
 pub mod Part
 pub mod Handled
 pub mod Looking

@@ -16,7 +16,7 @@ use Rattle.live_search.specs.declared.refusal.LiveRefusal.{LiveRefusal}
 use Rattle.live_search.specs.declared.refusal.LiveRefusal.TheVariants.{DiskFault, SinkFault, Damaged, OutOfMemory}
 use Rattle.live_search.specs.declared.fixed.LiveFixed.{LiveFixed}
 use Rattle.live_search.specs.Handled.{Reached}
-use Rattle.live_search.specs.Live.{Live}
+use Rattle.search_meaning.specs.Live.{Live}
 
 -- what the reader has come to; its output, the name of the borrow, and the output as it was when the reader was made; and why it
 -- reads no further

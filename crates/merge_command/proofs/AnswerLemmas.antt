@@ -8,7 +8,7 @@ use Rattle.record_format.specs.declared.header.Header.{Header}
 use Rattle.archive_meaning.specs.declared.entry.JournalEntry.{JournalEntry}
 use Rattle.archive_meaning.specs.Stands.{StandsFor}
 use Rattle.archive_open.specs.Shown.{RefusedAt, StandsForNone}
-use Rattle.search_walk.specs.Journal.{OfJournal}
+use Rattle.search_meaning.specs.Journal.{OfJournal}
 use Rattle.sink_pieces.specs.Output.{Grew}
 use Rattle.command_refusals.specs.Ending.{RoseIn, SaysIn, Stayed}
 use Rattle.command_refusals.specs.Outcome.{merge_line, merge_status}

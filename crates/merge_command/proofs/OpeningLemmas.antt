@@ -12,7 +12,7 @@ use Rattle.archive_meaning.specs.Held.{Held}
 use Rattle.archive_open.specs.Shown.{HasLastGate, IsLastGate, RefusedAt, Shown, StandsForNone}
 use Rattle.archive_open.specs.declared.refusal.ArchiveRefusal.{ArchiveRefusal}
 use Rattle.archive_open.proofs.OpenLemmas.{start_refused}
-use Rattle.search_walk.specs.Journal.{OfJournal}
+use Rattle.search_meaning.specs.Journal.{OfJournal}
 use Rattle.command_refusals.specs.GoesOn.{DiskGoesOn}
 use Rattle.command_refusals.specs.Outcome.{merge_from_archive, merge_from_start}
 use Rattle.command_refusals.specs.Reading.{OverJournal}

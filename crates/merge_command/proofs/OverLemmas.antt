@@ -19,7 +19,7 @@ use Rattle.archive_open.specs.declared.files.FileEntry.{FileEntry}
 use Rattle.ingest_meaning.specs.Parts.{in_file}
 use Rattle.ingest_workers.specs.Ingested.{told_entries}
 use Rattle.ingest_workers.specs.Journal.{FrontHolds}
-use Rattle.search_walk.specs.Journal.{OfJournal}
+use Rattle.search_meaning.specs.Journal.{OfJournal}
 use Rattle.archive_merge.specs.Behind.{HasRun, IsOfFiles, SecondView, places_for}
 use Rattle.archive_merge.specs.Files.{AreCutAs}
 use Rattle.archive_merge.specs.Laws.{FilesAreRuns, SegmentsAreTheirs, view_in}

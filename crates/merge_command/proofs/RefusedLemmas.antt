@@ -12,7 +12,7 @@ use Rattle.archive_meaning.specs.Legal.{Run}
 use Rattle.archive_meaning.specs.Stands.{StandsFor}
 use Rattle.archive_meaning.proofs.RunLemmas.{one_held}
 use Rattle.ingest_meaning.specs.Dictionaries.{book_texts}
-use Rattle.search_walk.specs.Journal.{OfJournal}
+use Rattle.search_meaning.specs.Journal.{OfJournal}
 use Rattle.command_refusals.specs.declared.outcome.MergeRefusal.{MergeRefusal}
 use Rattle.command_answers.specs.Ingested.{FromArchive, LeavesJournal, TakesNothing}
 use Rattle.command_answers.specs.Merging.{AreFrontsOf, HasDiskCause, HasJournalCause, IsNeeded, Merges, TakesOver}

@@ -21,7 +21,7 @@ use Rattle.ingest_meaning.specs.WordsIn.{words_of}
 use Rattle.disk_seal.specs.Opening.{MayOpen}
 use Rattle.disk_seal.specs.Registered.{HoldsNames}
 use Rattle.ingest_workers.specs.Ingested.{told_entries}
-use Rattle.search_walk.specs.Journal.{OfJournal}
+use Rattle.search_meaning.specs.Journal.{OfJournal}
 use Rattle.archive_merge.specs.Behind.{SecondView, needed_of}
 use Rattle.archive_merge.specs.Laws.{FilesAreRuns, SegmentsAreTheirs, view_in}
 use Rattle.archive_merge.specs.Left.{LeavesEntries}

@@ -12,8 +12,8 @@ use Rattle.disk_journal.specs.State.{JournalState}
 use Rattle.disk_journal.specs.declared.journal.Journal.{Journal}
 use Rattle.disk_seal.specs.Opening.{MayOpen}
 use Rattle.disk_seal.specs.Registered.{HoldsNames}
-use Rattle.disk_seal.specs.declared.files.RegisterRefusal.{RegisterRefusal}
-use Rattle.disk_seal.specs.declared.files.RegisterRefusal.TheVariants.{DiskFault}
+use Rattle.ingest_meaning.specs.declared.refusal.RegisterRefusal.{RegisterRefusal}
+use Rattle.ingest_meaning.specs.declared.refusal.RegisterRefusal.TheVariants.{DiskFault}
 use Rattle.archive_meaning.specs.declared.TheConstants.{MAX_FILES}
 use Rattle.archive_meaning.specs.declared.entry.JournalEntry.{JournalEntry}
 use Rattle.archive_meaning.specs.Held.{Held}
@@ -22,7 +22,7 @@ use Rattle.archive_open.specs.Kept.{Kept}
 use Rattle.archive_open.specs.Shown.{HasLastGate, IsArchiveOf, Opens, Shown}
 use Rattle.archive_open.specs.declared.files.FileEntry.{FileEntry}
 use Rattle.ingest_workers.specs.Ingested.{told_entries}
-use Rattle.search_walk.specs.Journal.{OfJournal}
+use Rattle.search_meaning.specs.Journal.{OfJournal}
 use Rattle.archive_merge.specs.Behind.{SecondView}
 use Rattle.archive_merge.specs.Laws.{FilesAreRuns, SegmentsAreTheirs, TextsAreFair, texts_kept, view_in}
 use Rattle.archive_merge.specs.Merging.{EndsMerge, done_by}

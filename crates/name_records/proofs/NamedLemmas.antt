@@ -35,8 +35,8 @@ use Rattle.ingest_meaning.specs.Room.{files_record, files_size}
 use Rattle.disk_seal.specs.Opening.{MayOpen}
 use Rattle.disk_seal.specs.Registered.{HasRegistered, HoldsNames, IsFullFor}
 use Rattle.disk_seal.specs.Told.{IfTold, journal_in}
-use Rattle.disk_seal.specs.declared.files.RegisterRefusal.{RegisterRefusal}
-use Rattle.disk_seal.specs.declared.files.RegisterRefusal.TheVariants.{ArchiveFull, DiskFault, OutOfMemory}
+use Rattle.ingest_meaning.specs.declared.refusal.RegisterRefusal.{RegisterRefusal}
+use Rattle.ingest_meaning.specs.declared.refusal.RegisterRefusal.TheVariants.{ArchiveFull, DiskFault, OutOfMemory}
 use Rattle.disk_seal.proofs.NextLemmas.{gate_at}
 use Rattle.disk_seal.proofs.OpenLemmas.{journal_is}
 use Rattle.disk_seal.proofs.ToldLemmas.{told_map}

@@ -12,8 +12,8 @@ use Rattle.archive_meaning.specs.declared.entry.JournalEntry.TheVariants.{Files}
 use Rattle.disk_seal.specs.Opening.{MayOpen}
 use Rattle.disk_seal.specs.Registered.{HoldsNames, IsFullFor}
 use Rattle.disk_seal.specs.Told.{IfTold}
-use Rattle.disk_seal.specs.declared.files.RegisterRefusal.{RegisterRefusal}
-use Rattle.disk_seal.specs.declared.files.RegisterRefusal.TheVariants.{ArchiveFull, DiskFault}
+use Rattle.ingest_meaning.specs.declared.refusal.RegisterRefusal.{RegisterRefusal}
+use Rattle.ingest_meaning.specs.declared.refusal.RegisterRefusal.TheVariants.{ArchiveFull, DiskFault}
 use Rattle.ingest_workers.specs.Ingested.{told_entries}
 use Rattle.name_records.specs.Left.{HasGoneOn, StandsForOr}
 use Rattle.name_records.specs.Named.{HasNames}

@@ -8,10 +8,10 @@ use Rattle.archive_meaning.specs.declared.entry.JournalEntry.{JournalEntry}
 use Rattle.archive_meaning.specs.Stands.{StandsFor}
 use Rattle.archive_meaning.proofs.UniqueLemmas.{journals_are_whole}
 use Rattle.archive_meaning.specs.Held.{content_of}
-use Rattle.archive_check.specs.Checked.{DamagedAt}
+use Rattle.check_meaning.specs.Checked.{DamagedAt}
 use Rattle.archive_open.specs.Shown.{RefusedAt}
-use Rattle.search_walk.specs.Scan.{Asked}
-use Rattle.search_walk.specs.Journal.{asked}
+use Rattle.search_meaning.specs.Scan.{Asked}
+use Rattle.search_meaning.specs.Journal.{asked}
 use Rattle.column_store.specs.declared.range.Range.{Range}
 use Rattle.wild_match.specs.Reading.{IsLoneBackslash, IsSearchPattern}
 use Rattle.wild_match.specs.declared.pattern.Item.{Item}

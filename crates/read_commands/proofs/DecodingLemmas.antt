@@ -8,7 +8,7 @@ use Rattle.archive_open.proofs.OpenLemmas.{refused_at_last}
 use Rattle.archive_decode.specs.Decoded.{Decodes}
 use Rattle.archive_decode.specs.declared.refusal.DecodeRefusal.{DecodeRefusal}
 use Rattle.command_answers.specs.Decoding.{LacksFile, PrintsFile}
-use Rattle.command_refusals.specs.Outcome.{from_decode}
+use Rattle.read_commands.specs.Decoding.{from_decode}
 use Rattle.command_refusals.specs.Reading.{OverJournal}
 use Rattle.command_refusals.specs.declared.outcome.FileRefusal.{FileRefusal}
 

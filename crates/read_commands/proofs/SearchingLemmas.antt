@@ -9,11 +9,11 @@ use Rattle.record_format.specs.declared.header.Header.{Header}
 use Rattle.archive_meaning.specs.declared.entry.JournalEntry.{JournalEntry}
 use Rattle.archive_meaning.specs.Held.{Held}
 use Rattle.archive_open.specs.Shown.{Misses, ReadsAside, Spares, places_of}
-use Rattle.search_engine.specs.declared.report.Report.{Report}
+use Rattle.search_meaning.specs.declared.report.Report.{Report}
 use Rattle.printed_lines.specs.Lines.{lines_of}
-use Rattle.search_walk.specs.Scan.{Asked}
+use Rattle.search_meaning.specs.Scan.{Asked}
 use Rattle.search_engine.specs.Searched.{HasSearched, HasStopped}
-use Rattle.search_walk.specs.Journal.{MissesBarren, OfJournal, ReadsNoBarren}
+use Rattle.search_meaning.specs.Journal.{MissesBarren, OfJournal, ReadsNoBarren}
 use Rattle.search_walk.proofs.PickLemmas.{picks_once}
 use Rattle.command_answers.specs.Searching.{Found, PrintsFound, PrintsText, SparesBarren, found_counts, found_text, report_of}
 

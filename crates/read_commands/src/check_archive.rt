@@ -2,7 +2,7 @@
 ghost use Rattle.std.specs.Prelude.{◌≡◌, ℕ, IfOk, IfSome, IsErrOf};
 ghost use Rattle.log_seams.specs.Disk.{KeepsBytes};
 ghost use Rattle.log_seams.specs.Outside.{CountsOf};
-ghost use Rattle.archive_check.specs.Checked.{DamagedAt};
+ghost use Rattle.check_meaning.specs.Checked.{DamagedAt};
 ghost use Rattle.command_answers.specs.Counted.{PrintsCounts, counts_line};
 
 use archive_check::Summary;

@@ -6,12 +6,25 @@ ghost use Rattle.archive_meaning.specs.Held.{content_of};
 ghost use Rattle.archive_open.specs.Shown.{RefusedAt};
 ghost use Rattle.command_answers.specs.Decoding.{LacksFile, PrintsFile};
 ghost use Rattle.command_refusals.specs.Reading.{OverJournal};
+ghost use Rattle.read_commands.specs.Decoding.{from_decode};
 
-use archive_decode::decode;
+use archive_decode::{DecodeRefusal, decode};
 use archive_open::{Archive, PlainBooks, open_archive};
-use command_refusals::{FileRefusal, of_decode};
+use command_refusals::FileRefusal;
 use log_seams::{Disk, Sink};
 use std::alloc::Global;
+
+/// The refusal of a decoding, in an archive that is told as damaged at this place.
+fn of_decode(refusal: DecodeRefusal, at: u64) -> FileRefusal
+    ensures { result ≡ from_decode at refusal }
+{
+    match refusal {
+        DecodeRefusal::DiskFault => FileRefusal::DiskFault,
+        DecodeRefusal::Damaged => FileRefusal::Damaged { at },
+        DecodeRefusal::SinkFault => FileRefusal::SinkFault,
+        DecodeRefusal::OutOfMemory => FileRefusal::OutOfMemory,
+    }
+}
 
 /// Opens the archive of a disk, and prints the bytes of the file of a number.
 pub fn decode_file<D: Disk, K: Sink>(

@@ -6,7 +6,7 @@ ghost use Rattle.sink_pieces.specs.Output.{Grew, GrewByFront};
 ghost use Rattle.step_count.specs.Opens.{OpensFor};
 ghost use Rattle.query_plan.specs.Laws.{IsSearched};
 ghost use Rattle.archive_open.specs.Shown.{RefusedAt};
-ghost use Rattle.search_walk.specs.Journal.{asked};
+ghost use Rattle.search_meaning.specs.Journal.{asked};
 ghost use Rattle.command_refusals.specs.GoesOn.{DiskGoesOn};
 ghost use Rattle.command_refusals.specs.Outside.{AroundSinks};
 ghost use Rattle.command_answers.specs.Answers.{AnswersPattern};
@@ -15,12 +15,13 @@ ghost use Rattle.command_answers.specs.Searching.{PrintsFound, SparesBarren, fou
 use archive_places::open_places;
 use column_store::Range;
 use command_refusals::{
-    ReadRefusal, answer, of_search, refusal_of_pattern, refusal_of_read, report,
+    ReadRefusal, answer, refusal_of_pattern, refusal_of_read, report,
 };
 use command_words::SearchWords;
 use log_seams::{Disk, Sink};
 use query_plan::wide_is_wider;
 use search_engine::{Report, search};
+use search_refusals::of_search;
 use sink_pieces::write_all;
 use std::alloc::{AllocError, Global};
 use std::marker::Brand;

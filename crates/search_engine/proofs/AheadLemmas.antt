@@ -14,7 +14,7 @@ use Rattle.search_walk.specs.Held.{AreRowsOf, IsTold, Named, OfLeft}
 use Rattle.search_walk.specs.PagesRead.{IsOfPage, ReadsPage}
 use Rattle.search_walk.specs.Ready.{AreDecided, AreHeldFor}
 use Rattle.printed_lines.specs.Lines.{Placed, numbered}
-use Rattle.search_walk.specs.Scan.{Asked}
+use Rattle.search_meaning.specs.Scan.{Asked}
 use Rattle.search_walk.specs.Walked.{PagesGone}
 use Rattle.search_walk.proofs.PageLemmas.{parts_of, same_columns}
 use Rattle.search_walk.proofs.PagesReadLemmas.{such_on}

@@ -3,7 +3,7 @@ use Rattle.std.proofs.Common.{◌≡◌, ◌≢◌, ℕ, ◌+◌, ◌<◌, ◌�
 use mathlib.Core.Logic.{dite}
 use native.Mathlib.Decide.{ℕ_discrete}
 use Rattle.std.proofs.lemmas.List.{get_or_default}
-use Rattle.search_walk.specs.Scan.{Asked}
+use Rattle.search_meaning.specs.Scan.{Asked}
 use Rattle.word_places.specs.Held.{HeldNames}
 use Rattle.search_engine.specs.Waiting.{Slotted}
 use Rattle.search_engine.specs.Worked.{AreMatched, IsWorkedBy}

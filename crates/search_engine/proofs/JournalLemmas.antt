@@ -8,12 +8,12 @@ use Rattle.archive_places.specs.Fronts.{front_of_place}
 use Rattle.archive_places.specs.Laws.{HeadsStand, WordsStand}
 use Rattle.archive_places.specs.Opened.{OpensPlaces}
 use Rattle.search_engine.specs.declared.counts.Counts.{Counts}
-use Rattle.search_walk.specs.Scan.{Asked}
+use Rattle.search_meaning.specs.Scan.{Asked}
 use Rattle.search_engine.specs.Waiting.{Blames, Halts, Pending, Reaches, State, nothing_pending, state}
 use Rattle.search_walk.specs.Held.{Named, OfSegments}
 use Rattle.search_engine.specs.SegmentsDone.{Searched, SearchedFronts, Stopped, StoppedFronts}
 use Rattle.search_engine.specs.Searched.{HasSearched, HasStopped}
-use Rattle.search_walk.specs.Journal.{OfJournal}
+use Rattle.search_meaning.specs.Journal.{OfJournal}
 use Rattle.search_walk.proofs.SegmentLemmas.{of_all}
 use Rattle.search_walk.proofs.JournalLemmas.{Knows, of_journal, all_damaged}
 use Rattle.search_engine.proofs.SearchLemmas.{has_searched, has_stopped, last_damaged, last_stopped}

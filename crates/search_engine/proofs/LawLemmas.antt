@@ -2,7 +2,7 @@
 use Rattle.std.proofs.Common.{◌≡◌, inl, inr, List, [], ◌∷◌, sym, ◌∙◌, ap}
 use Rattle.query_plan.specs.Laws.{WideIsExact, WideIsWider}
 use Rattle.printed_lines.specs.Lines.{Picks, Placed}
-use Rattle.search_walk.specs.Scan.{IsFound, IsTried}
+use Rattle.search_meaning.specs.Scan.{IsFound, IsTried}
 use Rattle.search_engine.specs.Laws.{ExactExpandsPrinted, OneIsFound}
 use Rattle.search_walk.proofs.PickLemmas.{picks_once}
 

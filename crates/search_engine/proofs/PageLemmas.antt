@@ -7,7 +7,7 @@ use Rattle.subquery_filter.specs.declared.verdicts.Verdict.{Verdict}
 use Rattle.archive_open.specs.declared.files.FileEntry.{FileEntry}
 use Rattle.archive_places.specs.declared.front.SegmentFront.{SegmentFront}
 use Rattle.printed_lines.specs.Lines.{numbered}
-use Rattle.search_walk.specs.Scan.{Asked}
+use Rattle.search_meaning.specs.Scan.{Asked}
 use Rattle.search_walk.specs.Held.{Named, OfLeft}
 use Rattle.search_walk.specs.Walked.{PastTold}
 use Rattle.search_walk.proofs.PageLemmas.{left_all, past_more}

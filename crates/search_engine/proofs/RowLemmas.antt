@@ -12,7 +12,7 @@ use Rattle.search_walk.specs.declared.query.Judgement.{Judgement}
 use Rattle.search_walk.specs.declared.query.Judgement.TheVariants.{Left, Tried, Found}
 use Rattle.search_engine.specs.declared.counts.Counts.{Counts}
 use Rattle.printed_lines.specs.Lines.{Placed, label_of, line_of, numbered, placed}
-use Rattle.search_walk.specs.Scan.{Asked, IsFound, IsInRange, IsTried}
+use Rattle.search_meaning.specs.Scan.{Asked, IsFound, IsInRange, IsTried}
 use Rattle.search_engine.specs.Sofar.{Passes, Sofar, TicksWithin, sofar}
 use Rattle.search_walk.specs.Held.{AreRowsOf, Named}
 use Rattle.search_walk.specs.Judged.{Judges}

@@ -8,7 +8,7 @@ use Rattle.archive_meaning.specs.Stands.{StandsFor}
 use Rattle.archive_open.specs.declared.segments.SegmentPlace.{SegmentPlace}
 use Rattle.search_engine.specs.declared.counts.Counts.{Counts}
 use Rattle.printed_lines.specs.Lines.{Placed, lines_of}
-use Rattle.search_walk.specs.Scan.{Asked, IsFound, IsTried, all_placed}
+use Rattle.search_meaning.specs.Scan.{Asked, IsFound, IsTried, all_placed}
 use Rattle.sink_pieces.specs.Output.{GrewByFront}
 use Rattle.sink_pieces.proofs.OutputLemmas.{Grew-nothing}
 use Rattle.search_engine.specs.Sofar.{Passes, Sofar, sofar}
@@ -16,9 +16,9 @@ use Rattle.search_engine.specs.Waiting.{Blames, Halts, Pending, Reaches, State, 
 use Rattle.archive_places.specs.declared.places.Places.{Places}
 use Rattle.archive_places.specs.Opened.{OpensPlaces}
 use Rattle.search_walk.specs.Held.{Named}
-use Rattle.search_walk.specs.Opened.{IsBarrenFor}
+use Rattle.search_meaning.specs.Opened.{IsBarrenFor}
 use Rattle.search_engine.specs.SegmentsDone.{Searched, Stopped}
-use Rattle.search_walk.specs.Journal.{AreSegmentsOf, OfJournal}
+use Rattle.search_meaning.specs.Journal.{AreSegmentsOf, OfJournal}
 use Rattle.search_engine.specs.Searched.{HasSearched, HasStopped}
 use Rattle.search_engine.specs.StepsSofar.{all_went}
 use Rattle.search_walk.proofs.PickLemmas.{picks_once, picks_short}

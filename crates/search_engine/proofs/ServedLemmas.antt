@@ -4,7 +4,7 @@ use Rattle.std.proofs.lemmas.List.Elements.{All-cons, All-head, All-nil, All-tai
 use Rattle.word_places.specs.declared.place.WordsPlace.{WordsPlace}
 use Rattle.word_places.specs.Held.{Grow, HeldNames, unread}
 use Rattle.word_places.specs.Places.{AreInOrder}
-use Rattle.search_walk.specs.Scan.{Asked}
+use Rattle.search_meaning.specs.Scan.{Asked}
 use Rattle.search_walk.specs.Held.{Named, named}
 use Rattle.search_engine.specs.Served.{AreReadyPages, IsServed}
 use Rattle.search_walk.specs.Ready.{IsReadyPage, Serves}

@@ -10,7 +10,7 @@ use Rattle.search_walk.specs.declared.refusal.SearchRefusal.{SearchRefusal}
 use Rattle.search_engine.specs.declared.counts.Counts.{Counts}
 use Rattle.search_engine.specs.Refused.{from_print}
 use Rattle.printed_lines.specs.Lines.{Placed, lines_of, numbered}
-use Rattle.search_walk.specs.Scan.{Asked, IsFound, IsTried}
+use Rattle.search_meaning.specs.Scan.{Asked, IsFound, IsTried}
 use Rattle.search_engine.specs.Sofar.{Counted, Goes, Passes, Sofar, Stops, sofar}
 use Rattle.subquery_filter.specs.declared.verdicts.Verdict.{Verdict}
 use Rattle.word_places.specs.Held.{HeldNames}

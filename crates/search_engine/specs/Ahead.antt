@@ -11,7 +11,7 @@ use Rattle.search_walk.specs.declared.refusal.SearchRefusal.{SearchRefusal}
 use Rattle.search_walk.specs.Held.{Named}
 use Rattle.search_walk.specs.PagesRead.{ReadsPage}
 use Rattle.search_walk.specs.Ready.{AreDecided, AreHeldFor}
-use Rattle.search_walk.specs.Scan.{Asked}
+use Rattle.search_meaning.specs.Scan.{Asked}
 use Rattle.search_engine.specs.declared.page_ahead.AheadPage.{AheadPage}
 
 -- the rows of pages, one page after the other

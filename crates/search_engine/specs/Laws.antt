@@ -4,7 +4,7 @@ use Rattle.query_plan.specs.declared.pieces.TheConstants.{MAX_OPEN_TOKENS}
 use Rattle.query_plan.specs.Laws.{NoOne}
 use Rattle.query_plan.specs.Pieces.{open_tokens}
 use Rattle.printed_lines.specs.Lines.{Placed}
-use Rattle.search_walk.specs.Scan.{AreFound, AreTried, Asked}
+use Rattle.search_meaning.specs.Scan.{AreFound, AreTried, Asked}
 
 -- where the pattern has no `?` and at most four open tokens, what is expanded is what is printed
 abbrev pub ExactExpandsPrinted : Type 0

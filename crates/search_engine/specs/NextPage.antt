@@ -5,7 +5,7 @@ use Rattle.segment_pages.specs.Paged.{AreNextTold, Paged, paged_after}
 use Rattle.word_places.specs.Held.{HeldNames}
 use Rattle.search_walk.specs.Held.{Named}
 use Rattle.search_walk.specs.Ready.{IsReadyPage}
-use Rattle.search_walk.specs.Scan.{Asked}
+use Rattle.search_meaning.specs.Scan.{Asked}
 use Rattle.search_engine.specs.Waiting.{Page, page}
 
 -- the page is the next one of a segment, with the name of its file and the number of its first message, and the words are held

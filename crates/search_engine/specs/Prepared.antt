@@ -3,7 +3,7 @@ use Rattle.std.specs.Prelude.{◌≡◌, ℕ, List, Option, map}
 use Rattle.archive_places.specs.declared.places.Places.{Places}
 use Rattle.word_places.specs.Held.{unread}
 use Rattle.search_walk.specs.Held.{named}
-use Rattle.search_walk.specs.Scan.{Asked}
+use Rattle.search_meaning.specs.Scan.{Asked}
 use Rattle.search_walk.specs.StepsScope.{IsScope}
 use Rattle.search_engine.specs.declared.prepared.Prepared.{Prepared}
 

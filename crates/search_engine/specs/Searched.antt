@@ -4,12 +4,12 @@ use Rattle.record_format.specs.declared.header.Header.{Header}
 use Rattle.archive_meaning.specs.declared.entry.JournalEntry.{JournalEntry}
 use Rattle.archive_meaning.specs.Held.{Held, content_of}
 use Rattle.archive_open.specs.declared.segments.SegmentPlace.{SegmentPlace}
-use Rattle.search_engine.specs.declared.report.Report.{Report}
+use Rattle.search_meaning.specs.declared.report.Report.{Report}
 use Rattle.printed_lines.specs.Lines.{Placed, lines_of}
-use Rattle.search_walk.specs.Scan.{AreFound, AreTried, Asked, all_placed}
+use Rattle.search_meaning.specs.Scan.{AreFound, AreTried, Asked, all_placed}
 use Rattle.sink_pieces.specs.Output.{Grew, GrewByFront}
-use Rattle.search_walk.specs.Opened.{AreOpened}
-use Rattle.search_walk.specs.Journal.{AreSegmentsOf}
+use Rattle.search_meaning.specs.Opened.{AreOpened}
+use Rattle.search_meaning.specs.Journal.{AreSegmentsOf}
 
 -- All was searched: what is printed are the lines of the messages that are found, in order, and the counts are those of
 -- what is found, expanded and opened.

@@ -4,7 +4,7 @@ use Rattle.archive_open.specs.declared.files.FileEntry.{FileEntry}
 use Rattle.archive_open.specs.declared.segments.SegmentPlace.{SegmentPlace}
 use Rattle.archive_places.specs.declared.front.SegmentFront.{SegmentFront}
 use Rattle.printed_lines.specs.Lines.{Placed}
-use Rattle.search_walk.specs.Scan.{Asked}
+use Rattle.search_meaning.specs.Scan.{Asked}
 use Rattle.search_walk.specs.Held.{Named}
 use Rattle.search_walk.specs.Walked.{Searched as SearchedBy, SearchedFronts as SearchedFrontsBy, Stopped as StoppedBy, StoppedFronts as StoppedFrontsBy}
 use Rattle.search_engine.specs.Waiting.{Halts, Reaches, State}

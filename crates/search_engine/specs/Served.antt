@@ -1,7 +1,7 @@
 -- Pages that wait, and the words that are held for them.
 use Rattle.std.specs.Prelude.{List, [], ◌∷◌}
 use Rattle.word_places.specs.Held.{HeldNames}
-use Rattle.search_walk.specs.Scan.{Asked}
+use Rattle.search_meaning.specs.Scan.{Asked}
 use Rattle.search_walk.specs.Held.{Named}
 use Rattle.search_engine.specs.Waiting.{Page}
 use Rattle.search_walk.specs.Ready.{Serves, IsReadyPage}

@@ -3,7 +3,7 @@ use Rattle.std.specs.Prelude.{◌≡◌, ◌<◌, ◌≤◌, ◌+◌, ◌^◌, �
 use Rattle.sink_pieces.specs.Output.{Grew, GrewByFront}
 use Rattle.search_engine.specs.declared.counts.Counts.{Counts}
 use Rattle.printed_lines.specs.Lines.{Placed, lines_of}
-use Rattle.search_walk.specs.Scan.{AreFound, AreTried, Asked}
+use Rattle.search_meaning.specs.Scan.{AreFound, AreTried, Asked}
 
 -- what the sink has taken, what is gathered for it, the counts, and the ticks of expanded messages
 pub record Sofar : Type 0 where

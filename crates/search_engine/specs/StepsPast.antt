@@ -3,7 +3,7 @@ use Rattle.std.specs.Prelude.{◌≡◌, ℕ, List, ◌++◌, length, drop, Opti
 use Rattle.column_store.specs.declared.row.Row.{Row}
 use Rattle.search_walk.specs.Held.{AreRowsOf, Named}
 use Rattle.printed_lines.specs.Lines.{numbered}
-use Rattle.search_walk.specs.Scan.{Asked}
+use Rattle.search_meaning.specs.Scan.{Asked}
 use Rattle.search_engine.specs.Sofar.{Passes, Sofar}
 
 -- past the first of a page's rows

@@ -6,7 +6,7 @@ use Rattle.sink_pieces.specs.Output.{Grew, GrewByFront, Moves}
 use Rattle.sink_pieces.proofs.OutputLemmas.{Grew-append, Grew-nothing}
 use Rattle.search_engine.specs.declared.counts.Counts.{Counts}
 use Rattle.printed_lines.specs.Lines.{Placed, line_of, lines_of}
-use Rattle.search_walk.specs.Scan.{Asked, IsFound, IsTried}
+use Rattle.search_meaning.specs.Scan.{Asked, IsFound, IsTried}
 use Rattle.search_engine.specs.Sofar.{Advances, Counted, Goes, Passes, Sofar, Stops, TicksWithin}
 use Rattle.printed_lines.proofs.LineLemmas.{picks_append}
 use Rattle.search_walk.proofs.PickLemmas.{picks_split, picks_once}

@@ -6,7 +6,7 @@ use Rattle.subquery_filter.specs.declared.verdicts.Verdict.{Verdict}
 use Rattle.sink_pieces.specs.Output.{Grew, GrewByFront}
 use Rattle.sink_pieces.proofs.OutputLemmas.{Moves-all}
 use Rattle.printed_lines.specs.Lines.{Picks, Placed, numbered}
-use Rattle.search_walk.specs.Scan.{Asked, IsFound, IsTried}
+use Rattle.search_meaning.specs.Scan.{Asked, IsFound, IsTried}
 use Rattle.search_engine.specs.Sofar.{Passes, Sofar, Stops, sofar}
 use Rattle.search_walk.specs.Held.{AreRowsOf, Named}
 use Rattle.search_engine.specs.Waiting.{Blames, Halts, Page, Pending, Reaches, Same, StandFor, State, WaitFor, page, sofar_of, state}

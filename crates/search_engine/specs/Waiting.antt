@@ -5,7 +5,7 @@ use Rattle.subquery_filter.specs.declared.verdicts.Verdict.{Verdict}
 use Rattle.search_engine.specs.declared.refusal.PrintRefusal.{PrintRefusal}
 use Rattle.search_engine.specs.declared.counts.Counts.{Counts}
 use Rattle.printed_lines.specs.Lines.{Picks, Placed, numbered}
-use Rattle.search_walk.specs.Scan.{Asked, IsFound, IsTried}
+use Rattle.search_meaning.specs.Scan.{Asked, IsFound, IsTried}
 use Rattle.search_engine.specs.Sofar.{Passes, Sofar, Stops, sofar}
 use Rattle.search_walk.specs.Held.{AreRowsOf, Named}
 

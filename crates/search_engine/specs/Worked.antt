@@ -1,7 +1,7 @@
 -- Pages that were searched by the words that were held.
 use Rattle.std.specs.Prelude.{◌≡◌, ◌<◌, ℕ, List, length, slice_index_or, All}
 use Rattle.word_places.specs.Held.{HeldNames}
-use Rattle.search_walk.specs.Scan.{Asked}
+use Rattle.search_meaning.specs.Scan.{Asked}
 use Rattle.search_walk.specs.Held.{Named}
 use Rattle.search_walk.specs.Ready.{IsReadyPage}
 use Rattle.search_engine.specs.Waiting.{IsWorked, Slotted}

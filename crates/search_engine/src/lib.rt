@@ -11,11 +11,10 @@ mod page_taking;
 mod prepared;
 mod printing;
 mod refusal;
-mod report;
 mod searching;
 mod threaded;
 
 pub use laws::{exact_expands_printed, one_is_found};
-pub use report::Report;
+pub use search_meaning::Report;
 pub use search_walk::SearchRefusal;
 pub use searching::search;

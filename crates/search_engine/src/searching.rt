@@ -7,16 +7,16 @@ ghost use Rattle.archive_places.specs.Opened.{OpensPlaces};
 ghost use Rattle.word_places.specs.Places.{AreInOrder};
 ghost use Rattle.search_engine.specs.Waiting.{nothing_pending};
 ghost use Rattle.search_engine.specs.Searched.{HasSearched, HasStopped};
-ghost use Rattle.search_walk.specs.Journal.{OfJournal, ReadsNoBarren, asked};
+ghost use Rattle.search_meaning.specs.Journal.{OfJournal, ReadsNoBarren, asked};
 
 use crate::page_batch::PageBatch;
 use crate::page_taking::print_segments;
 use crate::prepared::Prepared;
-use crate::report::Report;
 use crate::threaded::ThreadedContext;
 use archive_places::{Places, heads_stand, words_stand};
 use column_store::Range;
 use log_seams::{Disk, Sink};
+use search_meaning::Report;
 use search_walk::{Context, Query, SearchRefusal};
 use std::alloc::Global;
 use std::sync::ledger::Ledger;

@@ -29,9 +29,10 @@ use Rattle.word_places.specs.Reads.{IsOfWords}
 use Rattle.archive_open.specs.Shown.{columns_begin, columns_end, head_in, order_of, places_from, places_of}
 use Rattle.query_plan.specs.Pieces.{wide_pieces}
 use Rattle.barren_segments.specs.Barren.{IsBarren}
-use Rattle.search_walk.specs.Scan.{Asked}
-use Rattle.search_walk.specs.Opened.{IsBarrenFor, IsRead, ReadsOpened, columns_at}
-use Rattle.search_walk.specs.Journal.{MissesBarren, ReadsNoBarren}
+use Rattle.search_meaning.specs.Scan.{Asked}
+use Rattle.search_meaning.specs.Opened.{IsBarrenFor}
+use Rattle.search_walk.specs.Opened.{IsRead, ReadsOpened, columns_at}
+use Rattle.search_meaning.specs.Journal.{MissesBarren, ReadsNoBarren}
 use Rattle.search_walk.proofs.PagesReadLemmas.{two_added}
 use Rattle.search_walk.proofs.RowsHeld.{names_in}
 use Rattle.search_walk.proofs.HeldLemmas.{front_more, place_in, types_more}

@@ -16,9 +16,10 @@ use Rattle.archive_places.specs.declared.front.SegmentFront.{SegmentFront}
 use Rattle.archive_places.specs.Fronts.{fixed_in, front_of_place}
 use Rattle.archive_places.specs.Heads.{OfFront}
 use Rattle.printed_lines.specs.Lines.{Placed}
-use Rattle.search_walk.specs.Scan.{Asked}
+use Rattle.search_meaning.specs.Scan.{Asked}
 use Rattle.search_walk.specs.Held.{Named, OfSegments}
-use Rattle.search_walk.specs.Opened.{IsBarrenFor, IsRead, NoFronts, OfFronts, ReadsFronts, ReadsOpened, ReadsTold}
+use Rattle.search_meaning.specs.Opened.{IsBarrenFor}
+use Rattle.search_walk.specs.Opened.{IsRead, NoFronts, OfFronts, ReadsFronts, ReadsOpened, ReadsTold}
 use Rattle.search_walk.specs.Walked.{SearchedFronts, StoppedFronts}
 use Rattle.search_walk.specs.StepsPast.{SegmentsRun}
 use Rattle.search_walk.proofs.PagesReadLemmas.{none_added, rests_same}

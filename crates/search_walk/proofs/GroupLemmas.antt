@@ -21,7 +21,7 @@ use Rattle.archive_open.specs.declared.files.FileEntry.{FileEntry}
 use Rattle.archive_open.specs.declared.segments.SegmentPlace.{SegmentPlace}
 use Rattle.archive_open.specs.Shown.{IsArchiveOf, Shown, counted, order_of, places_from, places_of}
 use Rattle.printed_lines.specs.Lines.{Placed, numbered, placed}
-use Rattle.search_walk.specs.Scan.{all_placed}
+use Rattle.search_meaning.specs.Scan.{all_placed}
 use Rattle.search_walk.proofs.RowsHeld.{HaveRows, Texts, texts_of}
 use Rattle.search_walk.proofs.HeldLemmas.{held_from, is_of, or_false, piece_messages, piece_whole, place_in, same_file}
 use Rattle.search_walk.proofs.OrderLemmas.{AreAbove, AreAtLeast, NeverFall, Rise, above_from, least_lower, never_fall, sorted_filter}

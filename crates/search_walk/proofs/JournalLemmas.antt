@@ -15,7 +15,7 @@ use Rattle.archive_open.specs.Shown.{IsArchiveOf, Shown, kept_of, places_of as s
 use Rattle.column_store.specs.declared.range.Range.{Range}
 use Rattle.wild_match.specs.declared.pattern.Item.{Item}
 use Rattle.printed_lines.specs.Lines.{Placed}
-use Rattle.search_walk.specs.Scan.{Asked, all_placed}
+use Rattle.search_meaning.specs.Scan.{Asked, all_placed}
 use Rattle.archive_places.specs.declared.front.SegmentFront.{SegmentFront}
 use Rattle.archive_places.specs.declared.places.Places.{Places}
 use Rattle.archive_places.specs.Heads.{HasHeadAt}
@@ -26,7 +26,7 @@ use Rattle.word_places.specs.declared.place.WordsPlace.{WordsPlace}
 use Rattle.word_places.specs.Held.{HeldNames, places_of, unread}
 use Rattle.search_walk.specs.Held.{Named, OfSegments, named, words_told}
 use Rattle.search_walk.specs.Opened.{OfFronts, NoFronts, ReadsFronts, ReadsOpened}
-use Rattle.search_walk.specs.Journal.{MissesBarren, OfJournal, ReadsNoBarren, asked}
+use Rattle.search_meaning.specs.Journal.{MissesBarren, OfJournal, ReadsNoBarren, asked}
 use Rattle.search_walk.proofs.HeldLemmas.{nothing_distinct, run_distinct}
 use Rattle.search_walk.proofs.ReadyLemmas.{words_are, places_unread}
 use Rattle.search_walk.proofs.RowsHeld.{names_in, rows_told}

@@ -11,7 +11,7 @@ use Rattle.query_plan.specs.Laws.{WideIsWider}
 use Rattle.subquery_filter.specs.Filter.{RejectsType}
 use Rattle.query_plan.specs.Pieces.{wide_pieces}
 use Rattle.printed_lines.specs.Lines.{Picks, Placed, numbered}
-use Rattle.search_walk.specs.Scan.{Asked, IsFound, IsTried}
+use Rattle.search_meaning.specs.Scan.{Asked, IsFound, IsTried}
 use Rattle.search_walk.specs.Held.{AreRowsOf, IsTold, Named, OfLeft}
 use Rattle.search_walk.specs.Ready.{IsRuledOut}
 use Rattle.search_walk.specs.Walked.{AreOver, PagesGone, PastTold, WentOver}

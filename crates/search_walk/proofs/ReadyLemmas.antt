@@ -17,7 +17,7 @@ use Rattle.word_places.specs.Local.{Agree}
 use Rattle.word_places.specs.Places.{AreInOrder, AreWords, OfWords, payload_in}
 use Rattle.word_places.proofs.OrderLemmas.{unread_numbered}
 use Rattle.word_places.proofs.HeldLemmas.{all_agree, grow_all_held, grow_places}
-use Rattle.search_walk.specs.Scan.{Asked}
+use Rattle.search_meaning.specs.Scan.{Asked}
 use Rattle.search_walk.specs.Held.{IsTold, Named, StandIn, named, words_told}
 use Rattle.search_walk.specs.Ready.{AreDecided, AreHeldFor, IsDecided, IsHeldFor, IsLent, IsReady, IsReadyPage, Serves}
 

@@ -9,7 +9,7 @@ use Rattle.column_store.specs.declared.row.Row.{Row}
 use Rattle.time_patterns.proofs.VersionLemmas.{one_stamp_of}
 use Rattle.row_codec.specs.Means.{HasSpelling, IsCanonical}
 use Rattle.row_codec.proofs.MeansLemmas.{meaning_is_spelling}
-use Rattle.search_walk.specs.Scan.{IsInRange}
+use Rattle.search_meaning.specs.Scan.{IsInRange}
 use Rattle.search_walk.specs.Held.{AreRowsOf, Named}
 
 -- the range of a message is that of its row

@@ -8,9 +8,10 @@ use Rattle.std.proofs.Math.ListN.{drop_of_length-le}
 use Rattle.archive_open.specs.declared.files.FileEntry.{FileEntry}
 use Rattle.archive_open.specs.declared.segments.SegmentPlace.{SegmentPlace}
 use Rattle.printed_lines.specs.Lines.{Placed, numbered}
-use Rattle.search_walk.specs.Scan.{Asked}
+use Rattle.search_meaning.specs.Scan.{Asked}
 use Rattle.search_walk.specs.Held.{HaveMessages, Named, OfSegments}
-use Rattle.search_walk.specs.Opened.{AreOpened, IsBarrenFor, IsRead, ReadsOpened}
+use Rattle.search_meaning.specs.Opened.{AreOpened, IsBarrenFor}
+use Rattle.search_walk.specs.Opened.{IsRead, ReadsOpened}
 use Rattle.search_walk.specs.Walked.{Searched, Stopped}
 use Rattle.search_walk.specs.StepsPast.{SegmentsPastTold}
 use Rattle.printed_lines.proofs.LineLemmas.{picks_append}

@@ -15,9 +15,9 @@ use Rattle.subquery_filter.specs.Filter.{HasNoMatch, IsWithin, MayHave}
 use Rattle.subquery_filter.proofs.HeadLemmas.{within_moments}
 use Rattle.segment_format.specs.declared.head.Head.{Head}
 use Rattle.printed_lines.specs.Lines.{Picks, Placed, numbered}
-use Rattle.search_walk.specs.Scan.{Asked, IsFound, IsTried}
+use Rattle.search_meaning.specs.Scan.{Asked, IsFound, IsTried}
 use Rattle.search_walk.specs.Held.{IsTold, Named, OfLeft, OfSegments}
-use Rattle.search_walk.specs.Opened.{AreOpened, IsBarrenFor}
+use Rattle.search_meaning.specs.Opened.{AreOpened, IsBarrenFor}
 use Rattle.search_walk.specs.Walked.{Searched, Stopped}
 use Rattle.search_walk.proofs.PickLemmas.{picks_once}
 use Rattle.search_walk.proofs.SegmentLemmas.{Single, Tells, barren_found, barren_tried, not_barren, nothing_picked, number_listed, single, type_listed}

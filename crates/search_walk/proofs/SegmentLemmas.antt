@@ -20,10 +20,11 @@ use Rattle.subquery_filter.specs.Laws.{BarrenHasNoMatch, words_of}
 use Rattle.archive_open.specs.declared.files.FileEntry.{FileEntry}
 use Rattle.archive_open.specs.declared.segments.SegmentPlace.{SegmentPlace}
 use Rattle.printed_lines.specs.Lines.{Picks, Placed, numbered}
-use Rattle.search_walk.specs.Scan.{Asked, IsFound, IsTried}
+use Rattle.search_meaning.specs.Scan.{Asked, IsFound, IsTried}
 use Rattle.search_walk.specs.Held.{HasMessages, HaveMessages, IsTold, Named, OfLeft, OfSegments}
 use Rattle.search_walk.specs.PagesRead.{IsOfPage, ReadsPage}
-use Rattle.search_walk.specs.Opened.{IsBarrenFor, IsRead, ReadsOpened}
+use Rattle.search_meaning.specs.Opened.{IsBarrenFor}
+use Rattle.search_walk.specs.Opened.{IsRead, ReadsOpened}
 use Rattle.row_codec.specs.Numbers.{numbers_of_row}
 use Rattle.segment_format.proofs.SetLemmas.{has_sorted_set}
 use Rattle.search_walk.proofs.RowLemmas.{of_range}

@@ -15,7 +15,7 @@ use Rattle.subquery_filter.specs.declared.verdicts.Verdict.{Verdict}
 use Rattle.subquery_filter.specs.declared.verdicts.Verdict.TheVariants.{Rejected, Certain, Tried}
 use Rattle.word_places.specs.Held.{HeldNames, lends}
 use Rattle.word_places.specs.Local.{Agree, EncodingIsLocal, SpellingIsLocal}
-use Rattle.search_walk.specs.Scan.{Asked}
+use Rattle.search_meaning.specs.Scan.{Asked}
 use Rattle.search_walk.specs.Held.{Named}
 use Rattle.search_walk.specs.Ready.{IsDecided, IsLent}
 use Rattle.search_walk.proofs.RowLemmas.{has_spelling, of_range}

@@ -1,4 +1,3 @@
-pub mod Scan
 pub mod Held
 pub mod Told
 pub mod PagesRead
@@ -6,7 +5,6 @@ pub mod StepsScope
 pub mod Ready
 pub mod Judged
 pub mod Opened
-pub mod Journal
 pub mod Refused
 pub mod Takes
 pub mod Walked

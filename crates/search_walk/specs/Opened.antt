@@ -6,25 +6,15 @@ use Rattle.segment_format.specs.Pages.{first_page}
 use Rattle.column_store.specs.declared.row.Row.{Row}
 use Rattle.segment_pages.specs.Paged.{HoldsLeft, HoldsSegment, Paged, columns_size, paged_first}
 use Rattle.archive_meaning.specs.declared.TheConstants.{MAX_MESSAGES}
-use Rattle.query_plan.specs.Pieces.{wide_pieces}
-use Rattle.barren_segments.specs.Barren.{IsBarren}
 use Rattle.log_seams.specs.Disk.{DiskState}
 use Rattle.archive_open.specs.declared.files.FileEntry.{FileEntry}
 use Rattle.archive_open.specs.declared.segments.SegmentPlace.{SegmentPlace}
 use Rattle.archive_places.specs.declared.front.SegmentFront.{SegmentFront}
 use Rattle.archive_places.specs.Fronts.{front_of_place}
 use Rattle.word_places.specs.Reads.{IsOfWords}
-use Rattle.printed_lines.specs.Lines.{Picks}
-use Rattle.search_walk.specs.Scan.{Asked}
+use Rattle.search_meaning.specs.Opened.{IsBarrenFor}
+use Rattle.search_meaning.specs.Scan.{Asked}
 use Rattle.search_walk.specs.Held.{Named, OfSegments}
-
--- by these log types and words the segment's head tells that none of its rows is found
-abbrev pub IsBarrenFor : List (List ℕ) → List (List ℕ) → Asked → SegmentPlace → Type 0
-IsBarrenFor types words q p = IsBarren (wide_pieces q.pattern) q.range types words p.head
-
--- of these segments those are opened that are not barren
-abbrev pub AreOpened : List (List ℕ) → List (List ℕ) → Asked → List SegmentPlace → List SegmentPlace → Type 0
-AreOpened types words q ps opened = Picks (λ p. ¬ IsBarrenFor types words q p) ps opened
 
 -- where the columns of a segment begin
 abbrev pub columns_at : SegmentPlace → ℕ

@@ -12,7 +12,7 @@ use Rattle.subquery_filter.specs.declared.verdicts.Verdict.TheVariants.{Rejected
 use Rattle.word_places.specs.declared.held.HeldRecord.{HeldRecord}
 use Rattle.word_places.specs.Held.{AreHeld, AreNumbered, HeldNames, RightTold, lends, places_of}
 use Rattle.word_places.specs.Local.{Agree}
-use Rattle.search_walk.specs.Scan.{Asked, IsTried}
+use Rattle.search_meaning.specs.Scan.{Asked, IsTried}
 use Rattle.search_walk.specs.Held.{IsTold, Named}
 
 -- what is told of a row by its numbers and its moment: no message of it is expanded; it lies in the range; and the wider

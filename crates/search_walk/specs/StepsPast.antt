@@ -6,7 +6,7 @@ use Rattle.archive_open.specs.declared.files.FileEntry.{FileEntry}
 use Rattle.archive_open.specs.declared.segments.SegmentPlace.{SegmentPlace}
 use Rattle.archive_places.specs.declared.front.SegmentFront.{SegmentFront}
 use Rattle.printed_lines.specs.Lines.{Placed}
-use Rattle.search_walk.specs.Scan.{Asked}
+use Rattle.search_meaning.specs.Scan.{Asked}
 use Rattle.search_walk.specs.Held.{HaveMessages, Named, OfSegments}
 use Rattle.search_walk.specs.PagesRead.{ReadsPage}
 use Rattle.search_walk.specs.Opened.{OfFronts, ReadsFronts}

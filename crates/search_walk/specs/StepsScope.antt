@@ -9,7 +9,7 @@ use Rattle.subquery_filter.specs.declared.filter.Filter.{Filter}
 use Rattle.subquery_filter.specs.Filter.{IsFilter}
 use Rattle.subquery_filter.specs.Found.{AreNumbers}
 use Rattle.search_walk.specs.Held.{IsTold, Named}
-use Rattle.search_walk.specs.Scan.{Asked}
+use Rattle.search_meaning.specs.Scan.{Asked}
 
 -- what the numbers of rows stand for, what is asked, and the files of the archive
 pub record Scope : Type 0 where

@@ -3,7 +3,7 @@ use Rattle.std.specs.Prelude.{ℕ, ◌<◌, ◌+◌, ◌-◌, ◌^◌, List, [],
 use Rattle.segment_pages.specs.Paged.{Paged}
 use Rattle.word_places.specs.Held.{HeldNames}
 use Rattle.printed_lines.specs.Lines.{Picks, Placed}
-use Rattle.search_walk.specs.Scan.{Asked, IsFound, IsTried}
+use Rattle.search_meaning.specs.Scan.{Asked, IsFound, IsTried}
 use Rattle.search_walk.specs.Held.{Named}
 use Rattle.search_walk.specs.Ready.{Serves}
 use Rattle.search_walk.specs.StepsScope.{Scope}

@@ -8,9 +8,10 @@ use Rattle.archive_open.specs.declared.files.FileEntry.{FileEntry}
 use Rattle.archive_open.specs.declared.segments.SegmentPlace.{SegmentPlace}
 use Rattle.archive_places.specs.declared.front.SegmentFront.{SegmentFront}
 use Rattle.printed_lines.specs.Lines.{Picks, Placed, numbered}
-use Rattle.search_walk.specs.Scan.{Asked, IsFound, IsTried}
+use Rattle.search_meaning.specs.Scan.{Asked, IsFound, IsTried}
 use Rattle.search_walk.specs.Held.{AreRowsOf, Named, OfSegments}
-use Rattle.search_walk.specs.Opened.{AreOpened, OfFronts}
+use Rattle.search_meaning.specs.Opened.{AreOpened}
+use Rattle.search_walk.specs.Opened.{OfFronts}
 
 -- ---- pages
 

@@ -13,7 +13,8 @@ ghost use Rattle.subquery_filter.specs.declared.filter.Filter.{Filter};
 ghost use Rattle.subquery_filter.specs.Filter.{HasNoMatch, IsFilter, Rejects};
 ghost use Rattle.subquery_filter.specs.Page.{IsPage};
 ghost use Rattle.search_walk.specs.Held.{IsTold, Named, named};
-ghost use Rattle.search_walk.specs.Opened.{IsBarrenFor, IsOpened, NoneTold};
+ghost use Rattle.search_meaning.specs.Opened.{IsBarrenFor};
+ghost use Rattle.search_walk.specs.Opened.{IsOpened, NoneTold};
 ghost use Rattle.search_walk.specs.Ready.{IsDecided, IsRuledOut};
 ghost use Rattle.search_walk.specs.StepsScope.{IsScope, scope};
 

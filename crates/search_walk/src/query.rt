@@ -37,7 +37,7 @@ pub struct Query {
 impl Model for Query {
     ghost use Rattle.std.specs.Prelude.{◌≡◌, true};
     ghost use Rattle.query_plan.specs.Pieces.{wide, wide_pieces};
-    ghost use Rattle.search_walk.specs.Scan.{Asked};
+    ghost use Rattle.search_meaning.specs.Scan.{Asked};
 
     ghost Value = { Asked };
 

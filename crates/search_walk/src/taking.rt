@@ -5,7 +5,7 @@ ghost use Rattle.word_places.specs.Held.{HeldNames};
 ghost use Rattle.search_walk.specs.Held.{Named, OfLeft};
 ghost use Rattle.search_walk.specs.PagesRead.{ReadsPage};
 ghost use Rattle.printed_lines.specs.Lines.{Placed, numbered};
-ghost use Rattle.search_walk.specs.Scan.{Asked};
+ghost use Rattle.search_meaning.specs.Scan.{Asked};
 ghost use Rattle.search_walk.specs.StepsScope.{Scope};
 ghost use Rattle.search_walk.specs.Takes.{GoesOn, HasWords, IsLeft, PassesOver, StandsOn, StopsBehind, StopsHere, StopsWithin};
 ghost use Rattle.search_walk.specs.Walked.{PagesGone, PastTold};

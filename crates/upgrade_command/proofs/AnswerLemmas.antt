@@ -13,7 +13,7 @@ use Rattle.archive_meaning.specs.Held.{content_of}
 use Rattle.archive_meaning.specs.Stands.{StandsFor}
 use Rattle.archive_meaning.specs.declared.entry.JournalEntry.{JournalEntry}
 use Rattle.archive_open.specs.Shown.{Opens, RefusedAt, Shown}
-use Rattle.search_walk.specs.Journal.{OfJournal}
+use Rattle.search_meaning.specs.Journal.{OfJournal}
 use Rattle.sink_pieces.specs.Output.{Grew, GrewByFront}
 use Rattle.file_lines.specs.Directory.{FileLine, directory_from}
 use Rattle.command_refusals.specs.Ending.{EndsWith, RoseIn, SaysIn, Stayed, TookNothing}

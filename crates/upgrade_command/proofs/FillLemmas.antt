@@ -18,7 +18,7 @@ use Rattle.archive_open.specs.Shown.{HasLastGate, Opens, Shown, StandsForNone, c
 use Rattle.archive_text.specs.declared.cause.TextCause.{TextCause}
 use Rattle.archive_jobs.specs.Lent.{IsRead, LeavesCause, LentDisk, OpenerState}
 use Rattle.archive_text.specs.State.{StoredState}
-use Rattle.disk_seal.specs.declared.files.RegisterRefusal.{RegisterRefusal}
+use Rattle.ingest_meaning.specs.declared.refusal.RegisterRefusal.{RegisterRefusal}
 use Rattle.disk_seal.proofs.ToldLemmas.{told_map}
 use Rattle.ingest_workers.specs.Ingested.{HasIngested, HaveCauses, HoldTexts, plan_of, told_entries}
 use Rattle.ingest_workers.specs.InTurn.{AreFullInTurn}
@@ -27,7 +27,7 @@ use Rattle.ingest_workers.specs.declared.job.Job.{Job}
 use Rattle.name_records.specs.Left.{HasGoneOn, LeavesEntries}
 use Rattle.name_records.specs.Named.{AreNamed, HasNamesCause, names_of}
 use Rattle.name_records.proofs.LeftLemmas.{of_told}
-use Rattle.search_walk.specs.Journal.{OfJournal}
+use Rattle.search_meaning.specs.Journal.{OfJournal}
 use Rattle.command_refusals.specs.GoesOn.{DiskGoesOn}
 use Rattle.command_refusals.specs.Outcome.{upgrade_from_create, upgrade_from_register}
 use Rattle.command_refusals.specs.declared.outcome.UpgradeRefusal.{UpgradeRefusal}

@@ -8,7 +8,7 @@ use Rattle.record_format.specs.declared.header.Header.{Header}
 use Rattle.disk_journal.specs.Created.{MakesEmpty}
 use Rattle.disk_journal.specs.Journal.{state_of}
 use Rattle.disk_journal.specs.declared.journal.Journal.{Journal}
-use Rattle.disk_seal.specs.declared.files.RegisterRefusal.{RegisterRefusal}
+use Rattle.ingest_meaning.specs.declared.refusal.RegisterRefusal.{RegisterRefusal}
 use Rattle.archive_open.specs.Shown.{Opens, Shown}
 use Rattle.archive_text.specs.State.{StoredState}
 use Rattle.archive_text.specs.declared.cause.TextCause.{TextCause}

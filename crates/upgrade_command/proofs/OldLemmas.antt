@@ -17,7 +17,7 @@ use Rattle.archive_meaning.specs.declared.entry.JournalEntry.{JournalEntry}
 use Rattle.archive_meaning.specs.declared.entry.JournalEntry.TheVariants.{Files, Segment, Types, Words}
 use Rattle.archive_open.specs.Shown.{HasLastGate, IsGate, Opens, RefusedAt, Shown, StandsForNone, counted}
 use Rattle.archive_open.specs.declared.files.FileEntry.{FileEntry}
-use Rattle.search_walk.specs.Journal.{OfJournal}
+use Rattle.search_meaning.specs.Journal.{OfJournal}
 use Rattle.name_records.specs.Named.{IsShort, names_of}
 use Rattle.command_refusals.specs.declared.outcome.UpgradeRefusal.{UpgradeRefusal}
 use Rattle.upgrade_command.specs.Old.{IsOld, MayBeNamed, RefusesOld, RefusesOpened}

@@ -31,7 +31,7 @@ use Rattle.message_reader.specs.Taken.{IsBeforeLong}
 use Rattle.message_reader.specs.Versions.{MessagesOf}
 use Rattle.message_reader.proofs.VersionLawLemmas.{messages_exist}
 use Rattle.row_codec.specs.declared.namer.Which.{Which}
-use Rattle.search_walk.specs.Journal.{OfJournal}
+use Rattle.search_meaning.specs.Journal.{OfJournal}
 use Rattle.command_refusals.specs.LogLimits.{most_messages}
 use Rattle.command_refusals.specs.declared.outcome.UpgradeRefusal.{UpgradeRefusal}
 use Rattle.command_answers.specs.Ingested.{FileOutcome, HasMoreThan, WasCutShort}

@@ -21,7 +21,7 @@ use Rattle.ingest_workers.specs.Ingested.{AreNew, first_file, told_entries}
 use Rattle.ingest_workers.specs.Journal.{Holds}
 use Rattle.ingest_workers.specs.declared.job.Job.{Job}
 use Rattle.name_records.specs.Named.{AreNamed, AreNamesOf, HasNames, names_of}
-use Rattle.disk_seal.specs.declared.files.RegisterRefusal.{RegisterRefusal}
+use Rattle.ingest_meaning.specs.declared.refusal.RegisterRefusal.{RegisterRefusal}
 use Rattle.name_records.proofs.LeftLemmas.{by_told, of_told}
 use Rattle.command_answers.specs.Upgrading.{AreNamesOf as AreNamesTold}
 use Rattle.upgrade_command.specs.Filling.{HasNoTexts}

@@ -7,7 +7,7 @@ use Rattle.disk_journal.specs.declared.journal.Journal.{Journal}
 use Rattle.disk_seal.specs.Opening.{MayOpen}
 use Rattle.disk_seal.specs.Registered.{HoldsNames}
 use Rattle.disk_seal.specs.Told.{IfTold}
-use Rattle.disk_seal.specs.declared.files.RegisterRefusal.{RegisterRefusal}
+use Rattle.ingest_meaning.specs.declared.refusal.RegisterRefusal.{RegisterRefusal}
 use Rattle.archive_meaning.specs.Spelled.{types_of}
 use Rattle.ingest_meaning.specs.WordsIn.{words_of}
 use Rattle.ingest_workers.specs.InTurn.{AreFullInTurn}

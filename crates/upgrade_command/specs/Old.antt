@@ -7,7 +7,7 @@ use Rattle.record_format.specs.declared.header.TheConstants.{LAST_VERSION}
 use Rattle.archive_meaning.specs.declared.TheConstants.{MAX_FILES, MAX_NAME_LEN}
 use Rattle.archive_open.specs.Shown.{HasLastGate, Opens, RefusedAt, Shown}
 use Rattle.archive_open.specs.declared.files.FileEntry.{FileEntry}
-use Rattle.search_walk.specs.Journal.{OfJournal}
+use Rattle.search_meaning.specs.Journal.{OfJournal}
 use Rattle.command_refusals.specs.declared.outcome.UpgradeRefusal.{UpgradeRefusal}
 
 -- the archive may have so many files with such names

@@ -6,7 +6,7 @@ use Rattle.record_format.specs.declared.header.Header.{Header}
 use Rattle.disk_journal.specs.Created.{HasBytes}
 use Rattle.archive_meaning.specs.Held.{content_of}
 use Rattle.archive_meaning.specs.declared.entry.JournalEntry.{JournalEntry}
-use Rattle.search_walk.specs.Journal.{OfJournal}
+use Rattle.search_meaning.specs.Journal.{OfJournal}
 use Rattle.command_refusals.specs.declared.outcome.UpgradeRefusal.{UpgradeRefusal}
 use Rattle.command_answers.specs.Ingested.{FileOutcome, LeavesJournal}
 use Rattle.command_answers.specs.Upgrading.{CameOfText, FromNew, MakesNew, NamesSome, NamedNotAll}

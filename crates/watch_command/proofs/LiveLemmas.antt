@@ -17,7 +17,7 @@ use Rattle.archive_open.specs.Shown.{Opens, Shown}
 use Rattle.disk_seal.specs.Beside.{StandsOn}
 use Rattle.printed_lines.specs.Lines.{Placed, lines_of}
 use Rattle.printed_lines.proofs.LineLemmas.{lines_joined}
-use Rattle.live_search.specs.Live.{Live}
+use Rattle.search_meaning.specs.Live.{Live}
 use Rattle.live_search.specs.Reader.{HasGone, LiveStands, LiveView, live_follower}
 use Rattle.live_search.specs.declared.refusal.LiveRefusal.{LiveRefusal}
 use Rattle.live_search.proofs.LiveLemmas.{live_exists, live_joined, live_runs}

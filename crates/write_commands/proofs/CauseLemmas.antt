@@ -17,7 +17,7 @@ use Rattle.archive_open.proofs.OpenLemmas.{start_refused}
 use Rattle.archive_open.specs.declared.refusal.ArchiveRefusal.{ArchiveRefusal}
 use Rattle.disk_seal.specs.Opening.{MayOpen}
 use Rattle.disk_seal.specs.Registered.{IsFullFor}
-use Rattle.disk_seal.specs.declared.files.RegisterRefusal.{RegisterRefusal}
+use Rattle.ingest_meaning.specs.declared.refusal.RegisterRefusal.{RegisterRefusal}
 use Rattle.disk_seal.proofs.NextLemmas.{gate_at}
 use Rattle.ingest_workers.specs.Ingested.{told_entries}
 use Rattle.command_answers.specs.Ingested.{FromArchive, GoPast, HasCallCause, TakesNothing}

@@ -1,6 +1,4 @@
 pub mod AppendLemmas
-pub mod BenchLemmas
-pub mod BenchedLemmas
 pub mod CameLemmas
 pub mod CauseLemmas
 pub mod ContentLemmas
@@ -18,14 +16,11 @@ pub mod LawLemmas
 pub mod LeavesLemmas
 pub mod LentLemmas
 pub mod LineLemmas
-pub mod LogCauseLemmas
-pub mod MadeLemmas
 pub mod NameLemmas
 pub mod PieceLemmas
 pub mod PopLemmas
 pub mod RegisterLemmas
 pub mod StepsLemmas
-pub mod SummaryLemmas
 pub mod TakeInLemmas
 pub mod TakenLemmas
 pub mod WholeLemmas

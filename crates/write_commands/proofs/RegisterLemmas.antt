@@ -26,7 +26,7 @@ use Rattle.disk_seal.specs.Opening.{MayOpen}
 use Rattle.disk_seal.specs.Registered.{HoldsNames}
 use Rattle.ingest_meaning.specs.Room.{files_record, files_size}
 use Rattle.disk_seal.specs.Told.{IfTold, journal_in}
-use Rattle.disk_seal.specs.declared.files.RegisterRefusal.{RegisterRefusal}
+use Rattle.ingest_meaning.specs.declared.refusal.RegisterRefusal.{RegisterRefusal}
 use Rattle.disk_seal.proofs.NextLemmas.{gate_at}
 use Rattle.ingest_workers.specs.Ingested.{told_entries}
 use Rattle.command_answers.specs.Ingested.{FromArchive, LeavesJournal, StandsForEither, TakesNothing}

@@ -8,5 +8,4 @@ pub mod Naming
 pub mod StepsAdding
 pub mod StepsCauses
 pub mod Taken
-pub mod StepsBench
 pub mod StepsKnown

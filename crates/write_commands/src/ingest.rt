@@ -503,7 +503,7 @@ where
 
 /// Adds the logs to the archive of a disk, which is an archive where its bytes are to be told. Damage is
 /// told of any bytes. Answers the number of the first new file.
-pub(crate) fn add_lent<'a, R: Threads + Wait + Sync, H: Shelf, D: Disk + Send, L: Lent + Send>(
+pub fn add_lent<'a, R: Threads + Wait + Sync, H: Shelf, D: Disk + Send, L: Lent + Send>(
     rt: &R,
     alloc: Global,
     asked: NewLogs<'a>,

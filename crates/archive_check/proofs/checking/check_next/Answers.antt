@@ -1,7 +1,7 @@
 use Rattle.std.proofs.Common.{rules, ◌≡◌, Err, ◌∙◌, ap, arith, drop, subst, take}
 use Rattle.std.specs.Prelude.{IfSome}
 use Rattle.archive_core.proofs.RowsLemmas.{at_some}
-use Rattle.archive_check.specs.Checked.{DamagedAt}
+use Rattle.check_meaning.specs.Checked.{DamagedAt}
 use Rattle.archive_check.specs.Taken.{Takes, TakesNone}
 use Rattle.archive_check.proofs.CheckLemmas.{damage_told, refused_told, taken_told, untold}
 use Rattle.archive_check.proofs.checking.check_next.Goals as goal

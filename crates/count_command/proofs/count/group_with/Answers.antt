@@ -1,6 +1,6 @@
 use Rattle.std.proofs.Common.{◌≡◌, ap, rules, Err}
 use Rattle.command_refusals.specs.declared.outcome.ReadRefusal.{ReadRefusal}
-use Rattle.command_refusals.proofs.EndedLemmas.{search_refused_at}
+use Rattle.search_refusals.proofs.EndedLemmas.{search_refused_at}
 use Rattle.count_command.proofs.CountingLemmas.{counted_in, spares_counted, spares_opened}
 use Rattle.count_command.proofs.count.group_with.Goals as goal
 

@@ -1,6 +1,6 @@
 use Rattle.std.proofs.Common.{refl, subst}
 use Rattle.std.specs.Prelude.{IfOk, OnErr}
-use Rattle.search_walk.specs.Journal.{OfJournal, ReadsNoBarren, asked}
+use Rattle.search_meaning.specs.Journal.{OfJournal, ReadsNoBarren, asked}
 use Rattle.search_walk.proofs.AnswerLemmas.{on_err}
 use Rattle.search_walk.proofs.JournalLemmas.{asked_is, reads_nothing}
 use Rattle.group_count.specs.Grouped.{HasGrouped, HasStoppedCounting}

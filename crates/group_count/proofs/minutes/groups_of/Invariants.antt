@@ -1,5 +1,5 @@
 use Rattle.std.proofs.Common.{◌≡◌, ◌++◌, [], All}
-use Rattle.group_count.specs.Groups.{by_moment}
+use Rattle.search_meaning.specs.Groups.{by_moment}
 use Rattle.group_count.specs.Tables.{minute_entries}
 use Rattle.group_count.proofs.minutes.groups_of.Given as goal
 

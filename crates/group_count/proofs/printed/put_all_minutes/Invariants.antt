@@ -1,5 +1,5 @@
 use Rattle.std.proofs.Common.{◌≡◌, ◌++◌, flat_map, take}
-use Rattle.group_count.specs.Printed.{minute_line}
+use Rattle.search_meaning.specs.GroupLines.{minute_line}
 use Rattle.group_count.proofs.printed.put_all_minutes.Given as goal
 
 -- the lines of the groups up to here are written

@@ -1,6 +1,6 @@
 use Rattle.std.proofs.Common.{◌≡◌, ◌++◌, take, drop, rules, sym, ap, ◌∙◌}
 use Rattle.std.proofs.Common.{take-append-drop}
-use Rattle.group_count.specs.Printed.{shape_of}
+use Rattle.search_meaning.specs.GroupLines.{shape_of}
 use Rattle.group_count.proofs.ShapeLemmas.{run_written}
 use Rattle.group_count.proofs.printed.put_front.Goals as goal
 

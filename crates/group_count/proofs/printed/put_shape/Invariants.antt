@@ -1,5 +1,5 @@
 use Rattle.std.proofs.Common.{◌≡◌, ◌++◌, length}
-use Rattle.group_count.specs.Printed.{shape_of}
+use Rattle.search_meaning.specs.GroupLines.{shape_of}
 use Rattle.group_count.proofs.printed.put_shape.Given as goal
 
 abbrev pub decreases-loop-rest : goal.decreases-loop-rest

@@ -1,5 +1,5 @@
 use Rattle.std.proofs.Common.{◌≡◌, ◌++◌, take}
-use Rattle.group_count.specs.Printed.{types_text}
+use Rattle.search_meaning.specs.GroupLines.{types_text}
 use Rattle.group_count.proofs.printed.put_types.Given as goal
 
 -- the lines of the groups up to here are written

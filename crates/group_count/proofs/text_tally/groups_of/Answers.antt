@@ -3,7 +3,7 @@ use Rattle.std.specs.Borrow.{Bor}
 use Rattle.std.proofs.lemmas.List.Elements.{All-push, All-same}
 use Rattle.std.proofs.lemmas.Map.Iter.{rest_more}
 use Rattle.std.specs.Map.Iter.{deref_pair}
-use Rattle.group_count.specs.declared.groups.Group.{Group}
+use Rattle.search_meaning.specs.declared.groups.Group.{Group}
 use Rattle.group_count.proofs.GroupLemmas.{entry_more}
 use Rattle.group_count.proofs.text_tally.groups_of.Goals as goal
 

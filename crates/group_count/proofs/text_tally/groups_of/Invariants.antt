@@ -1,5 +1,5 @@
 use Rattle.std.proofs.Common.{◌≡◌, ◌++◌, pos, All}
-use Rattle.group_count.specs.Groups.{by_key}
+use Rattle.search_meaning.specs.Groups.{by_key}
 use Rattle.group_count.specs.Tables.{text_entries}
 use Rattle.group_count.proofs.text_tally.groups_of.Given as goal
 

@@ -1,6 +1,6 @@
 use Rattle.std.proofs.Common.{refl, rules, subst}
 use Rattle.wild_match.specs.Matches.{Match}
-use Rattle.search_walk.specs.Journal.{asked}
+use Rattle.search_meaning.specs.Journal.{asked}
 use Rattle.group_count.proofs.ColumnLemmas.{many_match, no_bound, not_all, some_items}
 use Rattle.group_count.proofs.way.way_of.Goals as goal
 

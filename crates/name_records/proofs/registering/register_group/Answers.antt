@@ -4,7 +4,7 @@ use Rattle.std.proofs.lemmas.Result.{err_from_is_err_and}
 use Rattle.disk_journal.specs.Journal.{state_of}
 use Rattle.archive_meaning.specs.declared.entry.JournalEntry.TheVariants.{Files}
 use Rattle.disk_seal.specs.Registered.{HasRegistered}
-use Rattle.disk_seal.specs.declared.files.RegisterRefusal.{RegisterRefusal}
+use Rattle.ingest_meaning.specs.declared.refusal.RegisterRefusal.{RegisterRefusal}
 use Rattle.name_records.specs.Named.{HasNames, names_of}
 use Rattle.name_records.proofs.NamedLemmas.{group_failed, group_goes, group_named, left_alone, nothing_ok}
 use Rattle.name_records.proofs.registering.register_group.Goals as goal

@@ -5,8 +5,8 @@ use Rattle.std.specs.Slice.Iter.{chunks_rest}
 use Rattle.archive_meaning.specs.declared.TheConstants.{MAX_NAMES}
 use Rattle.archive_meaning.specs.declared.entry.JournalEntry.TheVariants.{Files}
 use Rattle.archive_open.specs.declared.files.FileEntry.{FileEntry}
-use Rattle.disk_seal.specs.declared.files.RegisterRefusal.{RegisterRefusal}
-use Rattle.disk_seal.specs.declared.files.RegisterRefusal.TheVariants.{ArchiveFull, DiskFault}
+use Rattle.ingest_meaning.specs.declared.refusal.RegisterRefusal.{RegisterRefusal}
+use Rattle.ingest_meaning.specs.declared.refusal.RegisterRefusal.TheVariants.{ArchiveFull, DiskFault}
 use Rattle.disk_journal.specs.Journal.{state_of}
 use Rattle.disk_seal.specs.Registered.{HoldsNames}
 use Rattle.name_records.specs.Named.{HasNames, names_of}

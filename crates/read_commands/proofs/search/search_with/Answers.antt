@@ -3,7 +3,7 @@ use Rattle.std.specs.Prelude.{is_ok}
 use Rattle.std.proofs.lemmas.Result.{err_from_is_err_and}
 use Rattle.command_refusals.specs.declared.outcome.ReadRefusal.{ReadRefusal}
 use Rattle.read_commands.proofs.SearchingLemmas.{found_done, found_stopped, found_uncounted, found_unopened, grew_bare, grew_counted, spares_opened, spares_searched}
-use Rattle.command_refusals.proofs.EndedLemmas.{search_refused_at}
+use Rattle.search_refusals.proofs.EndedLemmas.{search_refused_at}
 use Rattle.read_commands.proofs.search.search_with.Goals.{then-wanted+in_ok-print_counts, else-wanted}
 use Rattle.read_commands.proofs.search.search_with.Goals as goal
 

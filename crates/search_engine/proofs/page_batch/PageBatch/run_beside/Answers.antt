@@ -2,7 +2,7 @@ use Rattle.std.proofs.Common.{◌≡◌, ◌∙◌, ℕ, List, All, ap, sym, sub
 use Rattle.row_codec.specs.Laid.{AreCut}
 use Rattle.word_places.specs.Held.{HeldNames}
 use Rattle.search_walk.specs.Held.{Named}
-use Rattle.search_walk.specs.Scan.{Asked}
+use Rattle.search_meaning.specs.Scan.{Asked}
 use Rattle.search_engine.specs.Waiting.{IsWorked, Pending, WaitFor, pages_of}
 use Rattle.search_walk.proofs.AnswerLemmas.{on_err}
 use Rattle.search_engine.specs.Ahead.{AreHeldPages}

@@ -10,7 +10,7 @@ use Rattle.segment_format.specs.Layout.{IsHead}
 use Rattle.barren_segments.specs.Barren.{IsBarren}
 use Rattle.subquery_filter.specs.Found.{AreNumbers}
 use Rattle.search_walk.specs.Held.{IsTold, Named, named}
-use Rattle.search_walk.specs.Opened.{IsBarrenFor}
+use Rattle.search_meaning.specs.Opened.{IsBarrenFor}
 use Rattle.search_walk.specs.StepsScope.{Scope}
 use Rattle.search_walk.proofs.context.Context.is_barren.Goals as goal
 

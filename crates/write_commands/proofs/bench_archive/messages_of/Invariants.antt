@@ -1,7 +1,0 @@
-use Rattle.std.proofs.Common.{◌≡◌, ◌*◌, ◌≤◌, take}
-use Rattle.std.specs.List.{sum_by}
-use Rattle.write_commands.specs.declared.file_report.FileReport.{FileReport}
-use Rattle.write_commands.proofs.bench_archive.messages_of.Given as goal
-
-abbrev pub invariant-loop-file : goal.invariant-loop-file
-invariant-loop-file l = (l.sum ≡ sum_by (λ (file : FileReport). file.messages) (take l.file-index l.files)) × (l.sum ≤ l.file-index * 18446744073709551615)
