@@ -3,8 +3,8 @@
 //! [`run`] is the top call. Its contract says for each command what the output takes, and for each
 //! refusal its cause. It calls [`run_without_turns`] first, which does all commands that wait for no
 //! turn of a lock, and returns on every input. The commands stand in `log_commands`,
-//! `read_commands`, `count_command`, `write_commands`, `merge_command`, `upgrade_command` and
-//! `watch_command`.
+//! `read_commands`, `count_command`, `write_commands`, `bench_command`, `merge_command`,
+//! `upgrade_command` and `watch_command`.
 #![tactic(auto)]
 
 mod laws;
