@@ -1,3 +1,5 @@
 pub mod EventLemmas
 pub mod MomentLemmas
+pub mod PartLemmas
+pub mod ReadsLemmas
 pub mod ShelfLemmas

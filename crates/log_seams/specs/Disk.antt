@@ -1,7 +1,7 @@
 -- What a disk tells, and what each of its calls does to that. A disk need not tell its bytes; where it does not, nothing
 -- is said of them.
 use Rattle.std.specs.Prelude.{◌≡◌, ◌⊎◌, ℕ, ◌+◌, ◌-◌, ◌≤◌, min, max, List, [], ◌∷◌, ◌++◌, length, take, drop}
-use Rattle.std.specs.Prelude.{Option, Some, None, option_map, is_some, IfSome, Result, IfOk, OnOk, OnErr}
+use Rattle.std.specs.Prelude.{Option, Some, None, option_map, is_some, IfSome, Result, IfOk, OnOk, OnErr, All}
 use Rattle.log_seams.specs.Outside.{Counts}
 
 -- the bytes that a read gives, where they are told; the images that a crash now may leave; the moment; the images that a
@@ -94,6 +94,13 @@ with_range at n = option_map (λ ranges. ranges ++ (at, n) ∷ [])
 -- at most one range more was read, which begins at this place and has at most n bytes
 abbrev pub ReadsOnly : ℕ → ℕ → DiskState → DiskState → Type 0
 ReadsOnly at n old new = (new.ranges ≡ old.ranges) ⊎ ((k : ℕ) × (k ≤ n) × (new.ranges ≡ with_range at k old.ranges))
+
+-- the disk was only read, and each range that was read since has P
+pub record ReadsSuch (P : ℕ × ℕ → Type 0) (old new : DiskState) : Type 0 where
+  pub rests : Rests old new
+  pub more : List (ℕ × ℕ)
+  pub added : new.ranges ≡ option_map (λ ranges. ranges ++ more) old.ranges
+  pub each : All P more
 
 -- The calls, each by its answer.
 

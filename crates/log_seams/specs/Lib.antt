@@ -1,8 +1,11 @@
 pub mod Outside
 pub mod Disk
+pub mod Parts
 pub mod Memory
 pub mod Replay
+pub mod Returned
 pub mod MemDisk
+pub mod MemPart
 pub mod MemShelf
 pub mod StepsReplay
 pub mod StepsClosed

@@ -2,8 +2,10 @@
 use Rattle.std.specs.Prelude.{◌≡◌, ℕ, Some, ◌+◌, ◌||◌, Bool, nat_eq, nat_lt, nat_le, min, List, [], length, take}
 use Rattle.std.specs.List.{list_any}
 use Rattle.log_seams.specs.Disk.{DiskState}
-use Rattle.log_seams.specs.Replay.{Event, events, IsImage, IsSince, reads_of}
+use Rattle.log_seams.specs.Replay.{Event, events, IsImage, IsSince}
+use Rattle.log_seams.specs.Returned.{ranges_told}
 use Rattle.log_seams.specs.declared.mem_disk.MemDisk.{MemDisk}
+use Rattle.log_seams.specs.declared.returned.Returned.{Nothing}
 
 -- the bytes that the disk began with
 abbrev pub first_of : MemDisk → List ℕ
@@ -25,6 +27,10 @@ events_of m = events m.calls.items m.log.items
 abbrev pub events_until : ℕ → MemDisk → List Event
 events_until after m = events (take after m.calls.items) m.log.items
 
+-- the ranges read, those of the parts that came back among them
+abbrev pub ranges_of : MemDisk → List (ℕ × ℕ)
+ranges_of m = ranges_told (events_of m) m.returned
+
 -- it tells its bytes and the ranges read; its moment is the count of its events
 abbrev pub disk_state : MemDisk → DiskState
 disk_state m = record {
@@ -32,7 +38,7 @@ disk_state m = record {
   images = IsImage m.first (events_of m);
   clock = length (events_of m);
   since = IsSince m.first (events_of m);
-  ranges = Some (reads_of (events_of m));
+  ranges = Some (ranges_of m);
   faults = m.faults;
 }
 
@@ -50,6 +56,8 @@ pub record SameBut (old new : MemDisk) : Type 0 where
   pub room : new.room ≡ old.room
   pub call_limit : new.call_limit ≡ old.call_limit
   pub fails : new.fails.items ≡ old.fails.items
+  pub part_fails : new.part_fails.items ≡ old.part_fails.items
+  pub returned : new.returned ≡ old.returned
 
 -- a call more was recorded, unless it is past the last
 pub record Recorded (old new : MemDisk) : Type 0 where
@@ -65,4 +73,6 @@ pub record IsNewDisk (bytes : List ℕ) (room call_limit : ℕ) (fails : List �
   pub rooms : m.room ≡ room
   pub limits : m.call_limit ≡ call_limit
   pub listed : m.fails.items ≡ fails
+  pub part_fails : m.part_fails.items ≡ []
+  pub returned : m.returned ≡ Nothing
   pub faults : m.faults ≡ 0

@@ -1,5 +1,5 @@
 -- What the fields and the laws of a disk in memory rest on.
-use Rattle.std.specs.Prelude.{◌≡◌, ℕ, ◌+◌, ◌≤◌, List, [], ◌∷◌, length, refl}
+use Rattle.std.specs.Prelude.{◌≡◌, ℕ, ◌+◌, ◌≤◌, List, [], ◌∷◌, ◌++◌, length, refl}
 use Rattle.std.proofs.Common.{inl, inr, arith, sym, subst}
 use Rattle.log_seams.specs.Replay.{Event, wrote, read, synced, other, logged, content, IsImage, IsSince}
 use Rattle.log_seams.specs.declared.mem_disk.Call.{Call}
@@ -11,6 +11,13 @@ IsQuiet (Wrote at count done) = ⊥
 IsQuiet (Read at count) = Unit {0}
 IsQuiet Synced = Unit {0}
 IsQuiet Other = Unit {0}
+
+-- the ranges with the one of a read
+abbrev pub with_read : Event → List (ℕ × ℕ) → List (ℕ × ℕ)
+with_read (wrote done at bytes) ranges = ranges
+with_read (read at n) ranges = ranges ++ (at, n) ∷ []
+with_read synced ranges = ranges
+with_read other ranges = ranges
 
 -- how many bytes of the log the calls have
 abbrev pub total : List Call → ℕ

@@ -4,8 +4,10 @@ ghost use Rattle.std.specs.Prelude.{◌≡◌, ◌≤◌, ◌∷◌, ℕ, List, 
 ghost use Rattle.log_seams.specs.Disk.{laid, Gave};
 ghost use Rattle.log_seams.specs.Outside.{Rose};
 ghost use Rattle.log_seams.specs.Replay.{wrote, logged, events, event_of, content, IsImage, Event, torn_by, after_event, left_by};
-ghost use Rattle.log_seams.specs.StepsReplay.{total, reads_now, counts_now, only_now, wider};
+ghost use Rattle.log_seams.specs.Returned.{came_after};
+ghost use Rattle.log_seams.specs.StepsReplay.{total, with_read, reads_now, counts_now, only_now, wider};
 
+use crate::returned::Returned;
 use crate::{Disk, Failed};
 use plain_list::Text;
 use std::alloc::{AllocError, Global};
@@ -39,21 +41,24 @@ pub enum Call {
 /// A disk in memory. Its calls take no memory: the room for them is taken when it is made.
 #[derive(Drop)]
 pub struct MemDisk {
-    alloc: Global,
+    pub(crate) alloc: Global,
     first: Text,
-    bytes: Vec<u8>,
-    calls: Vec<Call>,
+    pub(crate) bytes: Vec<u8>,
+    pub(crate) calls: Vec<Call>,
     log: Vec<u8>,
     fails: Vec<u64>,
     room: usize,
-    call_limit: usize,
-    faults: u64,
+    pub(crate) call_limit: usize,
+    pub(crate) faults: u64,
+    pub(crate) part_fails: Vec<u64>,
+    pub(crate) returned: Returned,
     ghost whole: { total calls.items ≡ length log.items },
     ghost same: { bytes.items ≡ content first (events calls.items log.items) },
     ghost room_bytes: { room ≤ vec_capacity bytes },
     ghost room_log: { room ≤ vec_capacity log },
     ghost room_calls: { call_limit ≤ vec_capacity calls },
     ghost recorded: { length calls.items ≤ call_limit },
+    ghost behind: { came_after returned ≤ length calls.items },
 }
 
 // Writes over what stands at a place, and past the end.
@@ -84,7 +89,7 @@ fn apply(file: &mut Vec<u8>, at: usize, bytes: &[u8], done: bool) -> Result<(), 
 }
 
 // Copies what stands at a place into the front of the buffer.
-fn copy_from(bytes: &[u8], at: u64, buf: &mut [u8]) -> usize
+pub(crate) fn copy_from(bytes: &[u8], at: u64, buf: &mut [u8]) -> usize
     ensures told { Gave (Some bytes.now) at result buf.old buf.new }
     ensures within { result ≤ length buf.old }
 {
@@ -182,7 +187,7 @@ impl MemDisk {
     ghost use Rattle.std.specs.Prelude.{[], ◌∷◌, false, min, ◌-◌};
     ghost use Rattle.log_seams.specs.StepsReplay.{IsQuiet};
     ghost use Rattle.log_seams.specs.Disk.{Rests};
-    ghost use Rattle.log_seams.specs.MemDisk.{first_of, bytes_of, calls_of, events_of, events_until, disk_state, fails_next, lacks_room, Recorded, IsNewDisk};
+    ghost use Rattle.log_seams.specs.MemDisk.{first_of, bytes_of, calls_of, events_of, events_until, ranges_of, disk_state, fails_next, lacks_room, Recorded, IsNewDisk};
 
     /// A disk that begins with these bytes, which may be more than `room`. It fails at each write that
     /// would begin behind its end, would end past `room`, or would take the sum of the bytes that it
@@ -211,6 +216,8 @@ impl MemDisk {
             room,
             call_limit,
             faults: 0,
+            part_fails: Vec::new(alloc),
+            returned: Returned::Nothing,
         })
     }
 
@@ -257,6 +264,18 @@ impl MemDisk {
         )
     }
 
+    /// The parts that the disk lends from now on fail at their calls whose numbers, from 0, stand in
+    /// the list. Those of a new disk fail at none.
+    pub fn fail_parts(&mut self, fails: Vec<u64>)
+        ensures listed { self.new.part_fails.items ≡ fails.items }
+        ensures events { events_of self.new ≡ events_of self.old }
+        ensures bytes { bytes_of self.new ≡ bytes_of self.old }
+        ensures ranges { ranges_of self.new ≡ ranges_of self.old }
+        ensures faults { self.new.faults ≡ self.old.faults }
+    {
+        self.part_fails = fails;
+    }
+
     // Whether the next call fails by its number.
     fn fails_next(&self) -> bool
         ensures { result ≡ fails_next self.now }
@@ -280,6 +299,7 @@ impl MemDisk {
         requires quiet { IsQuiet call }
         requires room { calls_of self.old < self.old.call_limit }
         ensures events { events_of self.new ≡ event_of call [] ∷ events_of self.old }
+        ensures ranges { ranges_of self.new ≡ with_read (event_of call []) (ranges_of self.old) }
         ensures bytes { bytes_of self.new ≡ bytes_of self.old }
         ensures recorded { Recorded self.old self.new }
         ensures faults { self.new.faults ≡ self.old.faults }
@@ -292,6 +312,7 @@ impl MemDisk {
         requires within { lacks_room self.old at (length bytes.now) ≡ false }
         requires room { calls_of self.old < self.old.call_limit }
         ensures events { events_of self.new ≡ wrote done at bytes.now ∷ events_of self.old }
+        ensures ranges { ranges_of self.new ≡ ranges_of self.old }
         ensures bytes { bytes_of self.new ≡ after_event (wrote done at bytes.now)
             (bytes_of self.old) }
         ensures recorded { Recorded self.old self.new }

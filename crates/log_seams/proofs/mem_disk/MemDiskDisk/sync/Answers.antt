@@ -1,5 +1,5 @@
 use Rattle.std.proofs.Common.{rules, sym, ◌∙◌, ap, List, ℕ, Some}
-use Rattle.log_seams.specs.Replay.{Event, synced, reads_of}
+use Rattle.log_seams.specs.Replay.{synced}
 use Rattle.log_seams.proofs.EventLemmas.{synced_less, synced_only, elapses}
 use Rattle.log_seams.proofs.mem_disk.MemDiskDisk.sync.Goals as goal
 
@@ -14,6 +14,6 @@ returns-clause-call c =
         no_more = synced_less _ _ _ _ same is;
         time = elapses c.args.self.now c.note.new.self synced same is;
       };
-      ranges = ap (λ (l : List Event). Some (reads_of l)) is;
+      ranges = ap (λ (l : List (ℕ × ℕ)). Some l) c.note.ensures.ranges;
       counts = search rules;
     }

@@ -1,5 +1,5 @@
 use Rattle.std.proofs.Common.{◌≡◌, ◌≤◌, length, ap, arith, rules, refl, true, false, List, ℕ, Some}
-use Rattle.log_seams.specs.Replay.{Event, wrote, content, reads_of}
+use Rattle.log_seams.specs.Replay.{wrote, content}
 use Rattle.log_seams.specs.MemDisk.{events_of, lacks_room}
 use Rattle.log_seams.proofs.EventLemmas.{wrote_follows, elapses, within_end}
 use Rattle.log_seams.proofs.mem_disk.MemDiskDisk.write.Goals as goal
@@ -17,7 +17,7 @@ returns-then-fails_next-clause-call c =
       tells = refl;
       images = wrote_follows _ _ _ _ false c.args.at c.args.bytes.now same is place;
       time = record { later = time.later; nothing_else = time.nothing_else; keeps = time.keeps };
-      ranges = ap (λ (l : List Event). Some (reads_of l)) is;
+      ranges = ap (λ (l : List (ℕ × ℕ)). Some l) c.put.ensures.ranges;
       counts = search (rules, arith);
     }
 
@@ -33,6 +33,6 @@ returns-clause-call c =
       tells = refl;
       images = wrote_follows _ _ _ _ true c.args.at c.args.bytes.now same is place;
       time = elapses c.args.self.now c.put-2.new.self (wrote true c.args.at c.args.bytes.now) same is;
-      ranges = ap (λ (l : List Event). Some (reads_of l)) is;
+      ranges = ap (λ (l : List (ℕ × ℕ)). Some l) c.put-2.ensures.ranges;
       counts = search rules;
     }
