@@ -18,19 +18,19 @@ use Rattle.command_refusals.specs.GoesOn.{DiskGoesOn}
 use Rattle.write_commands.specs.IngestPrints.{came_of, names_of}
 use Rattle.command_answers.specs.Ingested.{FileOutcome, FromArchive, HasCallCause, LeavesJournal, StandsForEither, TakesIn, TakesNothing, logs_of}
 use Rattle.command_refusals.specs.Refusal.{line_of, status_of}
-use Rattle.write_commands.specs.StepsCauses.{HaveFileCauses}
+use Rattle.file_outcomes.specs.StepsCauses.{HaveFileCauses}
 use Rattle.command_refusals.specs.declared.refusal.Refusal.{Refusal}
 use Rattle.command_refusals.specs.declared.outcome.AddRefusal.{AddRefusal}
 use Rattle.sink_pieces.specs.Output.{Grew}
 use Rattle.sink_pieces.proofs.OutputLemmas.{Grew-nothing}
 use Rattle.command_refusals.specs.Outcome.{answer_of, of_add, of_read}
-use Rattle.write_commands.specs.Taken.{error_of, status_of_taken}
+use Rattle.file_outcomes.specs.Taken.{error_of, status_of_taken}
 use Rattle.command_answers.specs.Taken.{gravest}
 use Rattle.command_refusals.specs.declared.outcome.ReadRefusal.{ReadRefusal}
 use Rattle.command_refusals.specs.declared.outcome.ReadRefusal.TheVariants.{Damaged, DiskFault, SinkFault}
-use Rattle.write_commands.specs.declared.file_report.FileReport.{FileReport}
+use Rattle.file_outcomes.specs.declared.file_report.FileReport.{FileReport}
 use Rattle.write_commands.proofs.CameLemmas.{errors_came, logs_came, names_came, statuses_came}
-use Rattle.write_commands.proofs.LeavesLemmas.{from_archive}
+use Rattle.file_outcomes.proofs.LeavesLemmas.{from_archive}
 
 -- ---- what came of the files
 

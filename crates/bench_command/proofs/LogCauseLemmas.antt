@@ -20,11 +20,11 @@ use Rattle.command_answers.specs.Benched.{IsSpared, IsTakenWhole, MayRefuseLog, 
 use Rattle.command_refusals.specs.Ending.{RoseIn}
 use Rattle.command_answers.specs.Ingested.{AreCutShort, FileOutcome, HasMoreThan, IsFront, Logs, names_in}
 use Rattle.command_refusals.specs.LogLimits.{IsLong, most_messages}
-use Rattle.write_commands.specs.StepsCauses.{CameIn, HasCauseIn, HaveFileCauses, Target}
+use Rattle.file_outcomes.specs.StepsCauses.{CameIn, HasCauseIn, HaveFileCauses, Target}
 use Rattle.command_refusals.specs.declared.outcome.PartCause.{PartCause}
 use Rattle.bench_command.proofs.BenchLemmas.{rose_on}
 use Rattle.write_commands.proofs.FileCauseLemmas.{at_of}
-use Rattle.write_commands.proofs.FitLemmas.{fit_later}
+use Rattle.file_outcomes.proofs.FitLemmas.{fit_later}
 
 -- ---- the names
 

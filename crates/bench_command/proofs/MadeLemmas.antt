@@ -38,14 +38,14 @@ use Rattle.command_refusals.specs.Reading.{IsArchive, OverJournal}
 use Rattle.command_refusals.specs.Refusal.{line_of, status_of}
 use Rattle.command_answers.specs.Ingested.{FileOutcome, FitIn, FromArchive, GoPast, HasCallCause, LeavesJournal, Logs, TakesIn, TakesNothing, logs_of}
 use Rattle.command_answers.specs.Names.{IsFirstTooLong, IsShortName}
-use Rattle.write_commands.specs.StepsCauses.{CameIn, HaveFileCauses, IsTarget}
+use Rattle.file_outcomes.specs.StepsCauses.{CameIn, HaveFileCauses, IsTarget}
 use Rattle.command_refusals.specs.declared.refusal.Refusal.{Refusal}
 use Rattle.command_refusals.specs.declared.outcome.AddRefusal.{AddRefusal}
 use Rattle.command_refusals.specs.declared.outcome.AddRefusal.TheVariants.{NameTooLong, TooManyFiles, ArchiveFull, DiskFault, Damaged, OutOfMemory}
 use Rattle.generated_logs.specs.Logs.{content_of as generated, name_of}
 use Rattle.bench_command.proofs.BenchLemmas.{sums_sooner}
 use Rattle.bench_command.proofs.BenchedLemmas.{bench_answers, making_answers}
-use Rattle.write_commands.proofs.FittingLemmas.{all_fit}
+use Rattle.file_outcomes.proofs.FittingLemmas.{all_fit}
 use Rattle.bench_command.proofs.LogCauseLemmas.{all_counted}
 use Rattle.write_commands.proofs.WholeLemmas.{came_on, file_causes, full_in_turn}
 

@@ -3,7 +3,7 @@ use Rattle.std.specs.Prelude.{◌≡◌, ◌⊎◌, ℕ, List, map, All, Option}
 use Rattle.log_seams.specs.Disk.{DiskState}
 use Rattle.command_refusals.specs.Outside.{Outside}
 use Rattle.command_answers.specs.Ingested.{FileOutcome, FromArchive, TakesIn, logs_of, RefusesIngest}
-use Rattle.write_commands.specs.StepsCauses.{HaveFileCauses}
+use Rattle.file_outcomes.specs.StepsCauses.{HaveFileCauses}
 use Rattle.command_answers.specs.Benched.{SumsUp, IsSpared, segment_rows, with_logs, TellsParts, generated_names}
 
 -- The names were added to the archive and the logs taken in, with the causes for which they are not whole, and it was told

@@ -12,12 +12,13 @@ ghost use Rattle.command_refusals.specs.Outside.{AroundSinks};
 ghost use Rattle.command_refusals.specs.GoesOn.{DiskGoesOn};
 ghost use Rattle.command_refusals.specs.Reading.{IsArchive};
 ghost use Rattle.write_commands.specs.IngestPrints.{came_of};
-ghost use Rattle.write_commands.specs.declared.file_report.FileReport.{FileReport};
+ghost use Rattle.file_outcomes.specs.declared.file_report.FileReport.{FileReport};
 
 use crate::summary::summarize;
 use command_refusals::{Refusal, refusal_of_add, refusal_of_create, refusal_of_read, report};
 use command_words::BenchWords;
 use disk_journal::create;
+use file_outcomes::{FileReport, report_taken};
 use generated_logs::GeneratedShelf;
 use log_seams::{Disk, Sink};
 use logtype_text::one_list_of_parts;
@@ -26,7 +27,7 @@ use std::alloc::Global;
 use std::marker::Brand;
 use std::sync::Wait;
 use std::thread::Threads;
-use write_commands::{FileReport, NewLogs, add_lent, refuse_names, report_taken};
+use write_commands::{NewLogs, add_lent, refuse_names};
 
 /// The limits of the archive: those of `create` without options.
 const LIMITS: Header = Header {

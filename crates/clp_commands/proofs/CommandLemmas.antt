@@ -12,7 +12,7 @@ use Rattle.command_refusals.specs.declared.outcome.AddRefusal.{AddRefusal}
 use Rattle.command_answers.specs.Names.{RefusesNames}
 use Rattle.command_answers.specs.Answers.{AnswersWatch}
 use Rattle.command_answers.specs.Known.{KnownArchive}
-use Rattle.write_commands.specs.StepsKnown.{EndsIngestAt}
+use Rattle.file_outcomes.specs.StepsKnown.{EndsIngestAt}
 use Rattle.command_answers.specs.Answers.{Answers, AnswersAsked}
 use Rattle.command_answers.specs.Words.{UsesArchive}
 use Rattle.clp_commands.specs.Turns.{AskForTurns, TakesTurns}

@@ -13,6 +13,7 @@ ghost use Rattle.command_answers.specs.Known.{KnownArchive};
 use crate::without_turns::run_without_turns;
 use bench_command::bench;
 use command_words::Command;
+use file_outcomes::Base;
 use log_seams::{Disk, Shelf, Sink};
 use merge_command::merge_archives;
 use std::alloc::Global;
@@ -21,7 +22,7 @@ use std::sync::Wait;
 use std::thread::Threads;
 use upgrade_command::upgrade_archive;
 use watch_command::watch_files;
-use write_commands::{Base, NewLogs, ingest_files};
+use write_commands::{NewLogs, ingest_files};
 
 /// Does what the words ask for, and answers the status that the program ends with.
 ///

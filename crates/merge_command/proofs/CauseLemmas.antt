@@ -28,7 +28,7 @@ use Rattle.archive_merge.proofs.SealingLemmas.{canonical_long}
 use Rattle.file_lines.specs.Directory.{FileLine}
 use Rattle.command_answers.specs.Merging.{IsFullOfBoth, LacksRoom, Merge, texts_held}
 use Rattle.merge_command.specs.Came.{lines_by, name_in}
-use Rattle.write_commands.proofs.LeavesLemmas.{of_told}
+use Rattle.file_outcomes.proofs.LeavesLemmas.{of_told}
 
 -- ---- texts
 

@@ -25,8 +25,8 @@ use Rattle.archive_merge.specs.declared.file.Merged.{Merged}
 use Rattle.file_lines.specs.Directory.{FileLine, line_of_file}
 use Rattle.command_answers.specs.Merging.{AreFrontsOf, name_alone}
 use Rattle.merge_command.specs.Came.{lines_by}
-use Rattle.write_commands.proofs.JoinLemmas.{HasNone, content_grows, new_file, with_names}
-use Rattle.write_commands.proofs.PieceLemmas.{HasBehind, HasGrown, HasSegments, HoldsOf, IsNewFrom, grown, has_ended, has_last, rows_in, segments_held}
+use Rattle.file_outcomes.proofs.JoinLemmas.{HasNone, content_grows, new_file, with_names}
+use Rattle.file_outcomes.proofs.PieceLemmas.{HasBehind, HasGrown, HasSegments, HoldsOf, IsNewFrom, grown, has_ended, has_last, rows_in, segments_held}
 
 -- ---- the names
 

@@ -43,8 +43,8 @@ use Rattle.command_refusals.specs.GoesOn.{DiskGoesOn}
 use Rattle.command_answers.specs.Ingested.{FromArchive}
 use Rattle.command_answers.specs.Merging.{HasDiskCause, HasJournalCause, IsNeeded, IsStopped, LacksRoom, MayCome, Merge, TakesOver}
 use Rattle.merge_command.specs.Came.{lines_by, name_at, name_in, place_stopped, refusal_by}
-use Rattle.write_commands.specs.JournalLeft.{StandsBetween}
-use Rattle.write_commands.proofs.LeavesLemmas.{begun_sooner, from_archive, of_told, prefix_same, still_between}
+use Rattle.file_outcomes.specs.JournalLeft.{StandsBetween}
+use Rattle.file_outcomes.proofs.LeavesLemmas.{begun_sooner, from_archive, of_told, prefix_same, still_between}
 use Rattle.merge_command.proofs.CauseLemmas.{full_of_both, lacks_room, line_at, line_told, texts_same}
 use Rattle.merge_command.proofs.OverLemmas.{names_shown}
 use Rattle.merge_command.proofs.RefusedLemmas.{of_all}

@@ -22,8 +22,8 @@ use Rattle.command_answers.specs.Known.{seen_if, told_if}
 use Rattle.command_answers.specs.Merging.{HasDiskCause, HasJournalCause, IsOfSecond, MayEndOpening, Merge, Merges, TellsInOrder}
 use Rattle.merge_command.specs.Came.{Agrees, ComesBehind, RefusesSecond, merge_by, refused_by}
 use Rattle.merge_command.specs.declared.over.Came.{Came}
-use Rattle.write_commands.proofs.LentLemmas.{keeps_twice, looked_told}
-use Rattle.write_commands.proofs.StepsLemmas.{Looked, looked_nothing}
+use Rattle.file_outcomes.proofs.LentLemmas.{keeps_twice, looked_told}
+use Rattle.file_outcomes.proofs.StepsLemmas.{Looked, looked_nothing}
 use Rattle.merge_command.proofs.MergedLemmas.{takes_sooner}
 use Rattle.merge_command.proofs.RefusedLemmas.{on_all, refused_early}
 

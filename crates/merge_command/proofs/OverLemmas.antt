@@ -31,8 +31,8 @@ use Rattle.archive_merge.specs.declared.file.Merged.{Merged}
 use Rattle.command_answers.specs.Ingested.{LeavesJournal}
 use Rattle.command_answers.specs.Merging.{AreFrontsOf, AreSegmentsAs}
 use Rattle.merge_command.specs.Came.{lines_by}
-use Rattle.write_commands.proofs.LeavesLemmas.{of_told}
-use Rattle.write_commands.proofs.PieceLemmas.{HoldsOf, IsNewFrom}
+use Rattle.file_outcomes.proofs.LeavesLemmas.{of_told}
+use Rattle.file_outcomes.proofs.PieceLemmas.{HoldsOf, IsNewFrom}
 use Rattle.merge_command.proofs.ContentLemmas.{IsFrontAt, IsNoneAt, IsSameAt, all_same, content_is, fronts_are, holds, length-files, line_of_held, told_lines}
 use Rattle.merge_command.proofs.SegmentLemmas.{cuts_theirs}
 

@@ -32,8 +32,8 @@ use Rattle.archive_merge.specs.declared.refusal.MergeRefusal.{MergeRefusal as Wh
 use Rattle.command_answers.specs.Ingested.{LeavesJournal}
 use Rattle.command_answers.specs.Merging.{HasJournalCause, IsNeeded, MayCome, Merge, TakesOver}
 use Rattle.merge_command.specs.Came.{lines_by}
-use Rattle.write_commands.proofs.LeavesLemmas.{of_told, opened_as}
-use Rattle.write_commands.proofs.PieceLemmas.{IsNewFrom}
+use Rattle.file_outcomes.proofs.LeavesLemmas.{of_told, opened_as}
+use Rattle.file_outcomes.proofs.PieceLemmas.{IsNewFrom}
 use Rattle.merge_command.proofs.ContentLemmas.{types_behind, words_behind}
 use Rattle.merge_command.proofs.CauseLemmas.{line_told}
 use Rattle.merge_command.proofs.MergedLemmas.{over_stood}

@@ -39,9 +39,9 @@ use Rattle.command_refusals.proofs.GoingLemmas.{KeepsBytes-same}
 use Rattle.command_answers.specs.Ingested.{FromArchive}
 use Rattle.command_answers.specs.Merging.{HasDiskCause, HasJournalCause, IsOfSecond, MayCome, MayNotCome, Merge, Merges, TakesOver}
 use Rattle.merge_command.specs.Came.{Agrees, ComesBehind, RefusesSecond, lines_by, name_at, place_stopped, refusal_by, refused_by, view_shown}
-use Rattle.write_commands.proofs.AppendLemmas.{files_counted}
-use Rattle.write_commands.proofs.LeavesLemmas.{of_told, opened_as}
-use Rattle.write_commands.proofs.StepsLemmas.{same_nothing}
+use Rattle.file_outcomes.proofs.AppendLemmas.{files_counted}
+use Rattle.file_outcomes.proofs.LeavesLemmas.{of_told, opened_as}
+use Rattle.file_outcomes.proofs.StepsLemmas.{same_nothing}
 use Rattle.merge_command.proofs.MergedLemmas.{disk_cause, journal_cause, length-lines, over_opened}
 use Rattle.merge_command.proofs.OverLemmas.{names_shown}
 use Rattle.merge_command.proofs.RefusedLemmas.{on_all, refused_early}

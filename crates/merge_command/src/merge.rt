@@ -10,8 +10,8 @@ ghost use Rattle.command_answers.specs.Known.{over, told_if};
 ghost use Rattle.command_answers.specs.Merging.{Merges, PrintsMerge, TellsInOrder, merged_line, merged_status};
 ghost use Rattle.command_refusals.specs.Refusal.{Says};
 ghost use Rattle.merge_command.specs.Came.{ComesBehind, kept_by, merge_by, merge_of, refused_by};
-ghost use Rattle.write_commands.specs.Naming.{IsHeldBy};
-ghost use Rattle.write_commands.specs.StepsKnown.{lent_state};
+ghost use Rattle.file_outcomes.specs.Naming.{IsHeldBy};
+ghost use Rattle.file_outcomes.specs.StepsKnown.{lent_state};
 
 use crate::lines::lines_of;
 use crate::over::{Came, add_second};
@@ -21,12 +21,12 @@ use archive_open::{Archive, open_for_append};
 use command_refusals::{MergeRefusal, refusal_of_print, report, report_merge};
 use disk_journal::{Journal, start};
 use file_lines::print_directory;
+use file_outcomes::{Base, Founded, Holding, Lent, PartedJournal, hold, part_journal};
 use log_seams::{Disk, Sink};
 use sink_pieces::PrintRefusal;
 use std::alloc::Global;
 use std::marker::Brand;
 use std::sync::Wait;
-use write_commands::{Base, Founded, Holding, Lent, PartedJournal, hold, part_journal};
 
 /// Writes why not all was merged, and answers the status.
 fn report_came<K: Sink>(err: &mut K, came: &Came) -> u8

@@ -10,8 +10,8 @@ ghost use Rattle.archive_merge.specs.Named.{names_of};
 ghost use Rattle.command_refusals.specs.GoesOn.{DiskGoesOn};
 ghost use Rattle.command_answers.specs.Merging.{Merges};
 ghost use Rattle.merge_command.specs.Came.{Agrees, ComesBehind, kept_by, merge_by, merge_of, refused_by, view_shown, RefusesSecond};
-ghost use Rattle.write_commands.specs.JournalAt.{state_at};
-ghost use Rattle.write_commands.specs.Naming.{IsHeldBy};
+ghost use Rattle.file_outcomes.specs.JournalAt.{state_at};
+ghost use Rattle.file_outcomes.specs.Naming.{IsHeldBy};
 
 use crate::refused::{place_of, refusal_of};
 use archive_meaning::MAX_FILES;
@@ -20,11 +20,11 @@ use archive_open::{Archive, PlainBooks, open_archive};
 use command_refusals::{MergeRefusal, of_second};
 use dict_core::Book;
 use disk_journal::Journal;
+use file_outcomes::{Holding, JournalEnd};
 use log_seams::Disk;
 use row_codec::Names;
 use std::alloc::Global;
 use std::sync::Wait;
-use write_commands::{Holding, JournalEnd};
 
 /// What came of a merge.
 #[derive(Drop)]

@@ -17,7 +17,7 @@ use Rattle.ingest_workers.specs.declared.job.Job.{Job}
 use Rattle.row_codec.specs.Messages.{IsTypeOf, IsWordOf}
 use Rattle.name_records.specs.Named.{names_of}
 use Rattle.command_answers.specs.Ingested.{FileOutcome, IsGiven, IsOfNew}
-use Rattle.write_commands.proofs.ContentLemmas.{AreJobsOf as HaveJobs, given_of_names}
+use Rattle.file_outcomes.proofs.ContentLemmas.{AreJobsOf as HaveJobs, given_of_names}
 use Rattle.upgrade_command.specs.Files.{bare, bares_by, came_by, outcome_by, outcomes_of, text_left}
 use Rattle.upgrade_command.proofs.RecordLemmas.{element_at}
 

@@ -23,10 +23,10 @@ use Rattle.ingest_workers.specs.declared.outcome.Cause.{Cause}
 use Rattle.file_lines.specs.Directory.{FileLine, line_of_file}
 use Rattle.command_answers.specs.Ingested.{FileOutcome, IsCutInto, line_of_came}
 use Rattle.name_records.proofs.LeftLemmas.{of_told}
-use Rattle.write_commands.specs.Jobs.{of_cause}
-use Rattle.write_commands.proofs.ContentLemmas.{HasParts, cut_of_parts, file_in, file_is, named_files, no_parts}
-use Rattle.write_commands.proofs.JoinLemmas.{HasNone}
-use Rattle.write_commands.proofs.PieceLemmas.{HoldsOf, one_file}
+use Rattle.file_outcomes.specs.Jobs.{of_cause}
+use Rattle.file_outcomes.proofs.ContentLemmas.{HasParts, cut_of_parts, file_in, file_is, named_files, no_parts}
+use Rattle.file_outcomes.proofs.JoinLemmas.{HasNone}
+use Rattle.file_outcomes.proofs.PieceLemmas.{HoldsOf, one_file}
 use Rattle.upgrade_command.specs.Files.{outcome_by, text_left}
 
 -- ---- one file

@@ -13,7 +13,7 @@ use Rattle.archive_meaning.specs.Held.{File, files_from}
 use Rattle.archive_meaning.specs.Stands.{IsLegal}
 use Rattle.ingest_workers.specs.Ingested.{OfMessages}
 use Rattle.command_answers.specs.Ingested.{FileOutcome, FitIn, WasTakenIn}
-use Rattle.write_commands.proofs.FittingLemmas.{HasFirst, IsEncodedBy, IsEncodedFile, encoded_from, fit_in, taken_encoded}
+use Rattle.file_outcomes.proofs.FittingLemmas.{HasFirst, IsEncodedBy, IsEncodedFile, encoded_from, fit_in, taken_encoded}
 use Rattle.upgrade_command.proofs.FileLemmas.{IsFileFor}
 
 module _ (one : OneListOfParts) (h : Header) (version : h.version ≡ LAST_VERSION) (named added : List JournalEntry) (legal : IsLegal h (named ++ added)) (names : List (List ℕ)) (came : List FileOutcome)

@@ -25,7 +25,7 @@ use Rattle.name_records.specs.Named.{AreNamesOf, HasNames}
 use Rattle.name_records.proofs.LeftLemmas.{by_told, either_left, goes_nowhere, goes_then, images_stand, of_told, store_goes, store_left}
 use Rattle.name_records.proofs.NamedLemmas.{left_behind}
 use Rattle.command_answers.specs.Ingested.{LeavesJournal}
-use Rattle.write_commands.proofs.PieceLemmas.{IsNewFrom, grown}
+use Rattle.file_outcomes.proofs.PieceLemmas.{IsNewFrom, grown}
 use Rattle.upgrade_command.specs.Filling.{DidFill, FillsNamed, IsNewJournal}
 use Rattle.upgrade_command.proofs.RecordLemmas.{entries_named, names_held}
 

@@ -32,10 +32,10 @@ use Rattle.command_refusals.specs.LogLimits.{most_messages}
 use Rattle.command_refusals.specs.declared.outcome.UpgradeRefusal.{UpgradeRefusal}
 use Rattle.command_answers.specs.Ingested.{FileOutcome, HasEnded, HasMoreThan, IsFullInTurn, IsStoppedBy, IsThereOrGiven, OfStopped, WasMetInOneOf, unsealed_of}
 use Rattle.command_answers.specs.Upgrading.{HasLimitCause, texts_read}
-use Rattle.write_commands.specs.Jobs.{of_cause}
-use Rattle.write_commands.proofs.ContentLemmas.{AreJobsOf as HaveJobs, given_of_names}
-use Rattle.write_commands.proofs.FitLemmas.{fit_of_job}
-use Rattle.write_commands.proofs.InTurnLemmas.{among_first, first_at, full_cause, text_wider, unsealed_same}
+use Rattle.file_outcomes.specs.Jobs.{of_cause}
+use Rattle.file_outcomes.proofs.ContentLemmas.{AreJobsOf as HaveJobs, given_of_names}
+use Rattle.file_outcomes.proofs.FitLemmas.{fit_of_job}
+use Rattle.file_outcomes.proofs.RefusalLemmas.{among_first, first_at, full_cause, text_wider, unsealed_same}
 use Rattle.upgrade_command.specs.Files.{came_by, outcome_by, text_left}
 use Rattle.upgrade_command.proofs.CameLemmas.{came_at, there_at}
 

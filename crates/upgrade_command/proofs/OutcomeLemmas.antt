@@ -36,7 +36,7 @@ use Rattle.command_refusals.specs.LogLimits.{most_messages}
 use Rattle.command_refusals.specs.declared.outcome.UpgradeRefusal.{UpgradeRefusal}
 use Rattle.command_answers.specs.Ingested.{FileOutcome, HasMoreThan, WasCutShort}
 use Rattle.command_answers.specs.Upgrading.{AreUpgrades, HasTextCause, IsOutcomeOf, IsUpgradeOf}
-use Rattle.write_commands.specs.Jobs.{of_cause}
+use Rattle.file_outcomes.specs.Jobs.{of_cause}
 use Rattle.upgrade_command.specs.Files.{outcome_by, stop_by, text_left}
 use Rattle.upgrade_command.proofs.CameLemmas.{some_is}
 use Rattle.upgrade_command.proofs.FileLemmas.{IsFileFor}

@@ -20,7 +20,7 @@ use Rattle.command_refusals.specs.declared.outcome.UpgradeRefusal.{UpgradeRefusa
 use Rattle.command_answers.specs.Ingested.{FileOutcome, PrintsCame, line_of_came}
 use Rattle.command_answers.specs.Taken.{file_error, file_status, gravest}
 use Rattle.command_answers.specs.Upgrading.{PrintsUpgrade}
-use Rattle.write_commands.specs.Jobs.{of_cause}
+use Rattle.file_outcomes.specs.Jobs.{of_cause}
 use Rattle.upgrade_command.specs.Files.{bare_by, bare_of, bares_by, outcomes_of}
 use Rattle.upgrade_command.specs.declared.report.NewFile.{NewFile}
 

@@ -34,8 +34,8 @@ use Rattle.command_refusals.specs.declared.outcome.UpgradeRefusal.{UpgradeRefusa
 use Rattle.command_answers.specs.Benched.{at_moment}
 use Rattle.command_answers.specs.Ingested.{FileOutcome, IsFullInTurn, IsOfNew, LeavesJournal, OfStopped, names_in}
 use Rattle.command_answers.specs.Upgrading.{CameOfText, FromNew, HasLimitCause, HasTextCause, MakesNew}
-use Rattle.write_commands.specs.Jobs.{of_cause}
-use Rattle.write_commands.proofs.ContentLemmas.{AreJobsOf as HaveJobs}
+use Rattle.file_outcomes.specs.Jobs.{of_cause}
+use Rattle.file_outcomes.proofs.ContentLemmas.{AreJobsOf as HaveJobs}
 use Rattle.upgrade_command.specs.Files.{came_by, outcome_by, stop_by, text_faults, text_left, text_name}
 use Rattle.upgrade_command.specs.Filling.{AreFilled, DidFill, FillsNamed, IsNewJournal}
 use Rattle.upgrade_command.specs.Taking.{TakesTexts}

@@ -19,7 +19,7 @@ use Rattle.archive_meaning.specs.declared.entry.JournalEntry.TheVariants.{Files,
 use Rattle.archive_meaning.proofs.SumsLemmas.{messages_joined, whole_joined}
 use Rattle.message_reader.specs.Taken.{IsBeforeLong}
 use Rattle.message_reader.specs.Versions.{MessagesOf}
-use Rattle.write_commands.proofs.JoinLemmas.{ended_joined}
+use Rattle.file_outcomes.proofs.JoinLemmas.{ended_joined}
 
 -- ---- messages are short
 

@@ -8,7 +8,7 @@ use Rattle.ingest_workers.specs.JobDone.{in_source}
 use Rattle.ingest_workers.specs.declared.outcome.Outcome.{Outcome}
 use Rattle.command_refusals.specs.declared.outcome.UpgradeRefusal.{UpgradeRefusal}
 use Rattle.command_answers.specs.Ingested.{FileOutcome}
-use Rattle.write_commands.specs.Jobs.{of_cause}
+use Rattle.file_outcomes.specs.Jobs.{of_cause}
 use Rattle.upgrade_command.specs.declared.report.NewFile.{NewFile}
 
 -- what the text of a file tells of its bytes, of its name, and of reads of it that failed

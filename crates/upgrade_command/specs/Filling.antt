@@ -18,7 +18,7 @@ use Rattle.archive_text.specs.State.{StoredState}
 use Rattle.archive_text.specs.declared.cause.TextCause.{TextCause}
 use Rattle.archive_jobs.specs.Lent.{LeavesCause}
 use Rattle.name_records.specs.Named.{AreNamed}
-use Rattle.write_commands.specs.Jobs.{AreNotBegun}
+use Rattle.file_outcomes.specs.Jobs.{AreNotBegun}
 use Rattle.upgrade_command.specs.Files.{text_faults, text_left, text_name}
 
 -- the journal was just made: it has no entries, and names can be registered

@@ -6,7 +6,7 @@ ghost use Rattle.command_answers.specs.Taken.{file_error, file_status, gravest};
 ghost use Rattle.command_answers.specs.Upgrading.{PrintsUpgrade};
 ghost use Rattle.command_refusals.specs.Outside.{AroundSinks};
 ghost use Rattle.command_refusals.specs.Refusal.{Says};
-ghost use Rattle.write_commands.specs.Jobs.{of_cause};
+ghost use Rattle.file_outcomes.specs.Jobs.{of_cause};
 ghost use Rattle.upgrade_command.specs.Files.{bare_of, bares_by, stop_by};
 ghost use Rattle.upgrade_command.specs.declared.report.NewFile.{NewFile};
 
@@ -17,11 +17,11 @@ use command_refusals::{
     report_file,
 };
 use file_lines::{Listed, print_directory};
+use file_outcomes::{graver, part_cause};
 use ingest_workers::{Cause, Outcome};
 use log_seams::Sink;
 use sink_pieces::PrintRefusal;
 use std::alloc::{AllocError, Global};
-use write_commands::{graver, part_cause};
 
 /// What came of a file.
 #[derive(Clone, Copy, Debug)]

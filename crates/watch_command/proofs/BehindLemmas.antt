@@ -22,10 +22,10 @@ use Rattle.command_refusals.specs.declared.outcome.ReadRefusal.{ReadRefusal}
 use Rattle.command_answers.specs.Ingested.{FileOutcome, FromArchive, TakesFiles, TakesIn, line_of_came, logs_of}
 use Rattle.command_answers.specs.Watching.{HasReaderCause, PrintsBehind, TellsFirst, TellsLive, WatchesFiles}
 use Rattle.write_commands.specs.IngestPrints.{came_of, names_of}
-use Rattle.write_commands.specs.StepsCauses.{HaveFileCauses}
-use Rattle.write_commands.specs.declared.file_report.FileReport.{FileReport}
+use Rattle.file_outcomes.specs.StepsCauses.{HaveFileCauses}
+use Rattle.file_outcomes.specs.declared.file_report.FileReport.{FileReport}
 use Rattle.write_commands.proofs.CameLemmas.{takes_with}
-use Rattle.write_commands.proofs.LeavesLemmas.{from_archive}
+use Rattle.file_outcomes.proofs.LeavesLemmas.{from_archive}
 use Rattle.watch_command.specs.Extended.{text_behind}
 use Rattle.watch_command.specs.StepsWatched.{PrintsLive, PrintsRest, WasWatched}
 use Rattle.watch_command.proofs.ExtendedLemmas.{text_is}

@@ -16,11 +16,11 @@ use Rattle.command_answers.specs.Answers.{AnswersGoodWatch}
 use Rattle.command_answers.specs.Ingested.{FromArchive, HasCallCause, RefusesIngest, TakesNothing, TellsDamage}
 use Rattle.command_answers.specs.Known.{KnownArchive, are_of, over}
 use Rattle.command_answers.specs.Names.{RefusesNames}
-use Rattle.write_commands.specs.StepsKnown.{told_lawful}
+use Rattle.file_outcomes.specs.StepsKnown.{told_lawful}
 use Rattle.write_commands.proofs.CauseLemmas.{names_cause}
-use Rattle.write_commands.proofs.LentLemmas.{names_damage}
+use Rattle.write_commands.proofs.DamageLemmas.{names_damage}
 use Rattle.write_commands.proofs.NameLemmas.{one_refusal}
-use Rattle.write_commands.proofs.StepsLemmas.{same_nothing}
+use Rattle.file_outcomes.proofs.StepsLemmas.{same_nothing}
 
 -- the call was refused as a whole, with its cause
 refused_whole : (names : List (List ℕ)) (seen : Outside) (old new : DiskState) (status : ℕ) (refusal : AddRefusal) → Refuses seen status (of_add refusal) → HasCallCause names old new refusal

@@ -15,8 +15,8 @@ use Rattle.command_answers.specs.Ingested.{FileOutcome, line_of_came}
 use Rattle.command_answers.specs.Taken.{file_error, file_status, gravest, gravest_of_call}
 use Rattle.command_answers.specs.Watching.{TellsCut, TellsFiles, TellsFirst}
 use Rattle.write_commands.specs.IngestPrints.{came_of}
-use Rattle.write_commands.specs.Taken.{error_of, line_of_taken, status_of_taken}
-use Rattle.write_commands.specs.declared.file_report.FileReport.{FileReport}
+use Rattle.file_outcomes.specs.Taken.{error_of, line_of_taken, status_of_taken}
+use Rattle.file_outcomes.specs.declared.file_report.FileReport.{FileReport}
 use Rattle.write_commands.proofs.CameLemmas.{errors_came, lines_came, statuses_came}
 use Rattle.watch_command.specs.StepsWatched.{PrintsRest}
 

@@ -26,12 +26,12 @@ use Rattle.command_refusals.specs.declared.outcome.ReadRefusal.{ReadRefusal}
 use Rattle.command_answers.specs.Ingested.{FileOutcome, FromArchive}
 use Rattle.command_answers.specs.Watching.{HasReaderCause}
 use Rattle.write_commands.specs.Followed.{Follows, IsLed, MayBeginAt}
-use Rattle.write_commands.proofs.AppendLemmas.{held_only, held_stands}
+use Rattle.file_outcomes.proofs.AppendLemmas.{held_only, held_stands}
 use Rattle.write_commands.proofs.FollowLemmas.{follows_looked}
-use Rattle.write_commands.proofs.HeldLemmas.{looked_goes}
-use Rattle.write_commands.proofs.LeavesLemmas.{counted}
-use Rattle.write_commands.proofs.LentLemmas.{keeps_twice}
-use Rattle.write_commands.proofs.StepsLemmas.{Looked, same_bytes}
+use Rattle.file_outcomes.proofs.HeldLemmas.{looked_goes}
+use Rattle.file_outcomes.proofs.LeavesLemmas.{counted}
+use Rattle.file_outcomes.proofs.LentLemmas.{keeps_twice}
+use Rattle.file_outcomes.proofs.StepsLemmas.{Looked, same_bytes}
 use Rattle.watch_command.specs.StepsWatched.{WasWatched, from_live}
 use Rattle.watch_command.proofs.LiveLemmas.{led_prints}
 

@@ -15,7 +15,7 @@ use Rattle.command_refusals.specs.Outcome.{answer_of, of_read}
 use Rattle.command_refusals.specs.declared.outcome.ReadRefusal.{ReadRefusal}
 use Rattle.command_answers.specs.Ingested.{FileOutcome, FromArchive, Logs, TakesIn, line_of_came}
 use Rattle.command_answers.specs.Watching.{HasReaderCause, TellsCut, TellsFiles, TellsLive}
-use Rattle.write_commands.specs.declared.file_report.FileReport.{FileReport}
+use Rattle.file_outcomes.specs.declared.file_report.FileReport.{FileReport}
 use Rattle.write_commands.specs.declared.ingest.NewLogs.{NewLogs}
 use Rattle.write_commands.specs.IngestPrints.{came_of}
 use Rattle.write_commands.specs.StepsAdding.{AddsNewLogs, names_asked}

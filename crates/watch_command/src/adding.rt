@@ -9,10 +9,10 @@ ghost use Rattle.command_refusals.specs.GoesOn.{DiskGoesOn};
 ghost use Rattle.command_refusals.specs.Reading.{IsArchive};
 ghost use Rattle.write_commands.specs.Followed.{FollowsBy, MayBeginAt};
 ghost use Rattle.write_commands.specs.IngestPrints.{came_of};
-ghost use Rattle.write_commands.specs.Naming.{IsHeldBy};
+ghost use Rattle.file_outcomes.specs.Naming.{IsHeldBy};
 ghost use Rattle.write_commands.specs.StepsAdding.{AddsOrRefuses, HasRoomFor, MayAdd, RefusesNewLogs, ShelfGoesOn, names_asked};
-ghost use Rattle.write_commands.specs.StepsCauses.{logs_around};
-ghost use Rattle.write_commands.specs.StepsKnown.{IsNoDamage, lent_state};
+ghost use Rattle.file_outcomes.specs.StepsCauses.{logs_around};
+ghost use Rattle.file_outcomes.specs.StepsKnown.{IsNoDamage, lent_state};
 ghost use Rattle.watch_command.specs.StepsWatched.{AddsWatched};
 
 use crate::reader::outcome_of;
@@ -20,6 +20,9 @@ use archive_core::Books;
 use archive_open::{Archive, open_archive, open_for_append};
 use command_refusals::{AddRefusal, ReadRefusal};
 use disk_journal::{Journal, start};
+use file_outcomes::{
+    FileReport, Founded, Holding, Lent, OpenedArchive, PartedJournal, hold, part_journal,
+};
 use live_search::LiveReader;
 use log_seams::{Disk, Shelf, Sink};
 use std::alloc::Global;
@@ -27,10 +30,7 @@ use std::marker::Brand;
 use std::sync::Wait;
 use std::thread::Threads;
 use wild_match::Pattern;
-use write_commands::{
-    FileReport, Founded, Holding, Lent, NewLogs, OpenedArchive, PartedJournal, add_over, hold,
-    part_journal,
-};
+use write_commands::{NewLogs, add_over};
 
 /// What came of logs that were added while a reader printed.
 #[derive(Clone, Copy, Debug)]

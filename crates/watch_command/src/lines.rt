@@ -7,16 +7,16 @@ ghost use Rattle.command_refusals.specs.Outcome.{answer_of};
 ghost use Rattle.command_refusals.specs.Outside.{AroundSinks};
 ghost use Rattle.command_answers.specs.Taken.{gravest_of_call};
 ghost use Rattle.write_commands.specs.IngestPrints.{came_of};
-ghost use Rattle.write_commands.specs.Taken.{line_of_taken};
+ghost use Rattle.file_outcomes.specs.Taken.{line_of_taken};
 ghost use Rattle.watch_command.specs.StepsWatched.{PrintsRest};
 
 use crate::adding::Watched;
 use command_refusals::{ReadRefusal, answer, refusal_of_print, refusal_of_read, report};
 use file_lines::print_directory;
+use file_outcomes::{FileReport, report_taken};
 use log_seams::Sink;
 use sink_pieces::PrintRefusal;
 use std::alloc::Global;
-use write_commands::{FileReport, report_taken};
 
 /// The graver of two statuses: that of a failed output, of a failed disk, of a damaged archive, of want
 /// of memory, of a log that is not whole.

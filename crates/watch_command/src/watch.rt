@@ -9,7 +9,7 @@ ghost use Rattle.command_answers.specs.Answers.{AnswersGoodWatch, AnswersWatch};
 ghost use Rattle.command_answers.specs.Ingested.{TellsDamage};
 ghost use Rattle.command_answers.specs.Known.{over, told_if};
 ghost use Rattle.write_commands.specs.StepsAdding.{HasRoomFor, MayAdd, RefusesNewLogs, ShelfGoesOn};
-ghost use Rattle.write_commands.specs.StepsCauses.{logs_around};
+ghost use Rattle.file_outcomes.specs.StepsCauses.{logs_around};
 ghost use Rattle.watch_command.specs.Extended.{TookMore};
 ghost use Rattle.watch_command.specs.StepsWatched.{AddsWatched};
 
@@ -17,6 +17,7 @@ use crate::adding::{Watched, add_watched};
 use crate::extended::{Extended, LentOut};
 use crate::lines::print_rest;
 use command_refusals::{AddRefusal, refusal_of_add, refusal_of_pattern, report};
+use file_outcomes::{Base, FileReport, Lent};
 use log_seams::{Disk, Shelf, Sink};
 use logtype_text::one_list_of_parts;
 use std::alloc::Global;
@@ -24,7 +25,7 @@ use std::marker::{Brand, PhantomData};
 use std::sync::Wait;
 use std::thread::Threads;
 use wild_match::{Pattern, read_pattern};
-use write_commands::{Base, FileReport, Lent, NewLogs, refuse_names};
+use write_commands::{NewLogs, refuse_names};
 
 /// Adds the logs with a reader beside, over a disk that is an archive where its bytes are to be told, and
 /// an output that is lent. Gives the output back.

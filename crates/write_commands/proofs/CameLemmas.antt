@@ -11,16 +11,16 @@ use Rattle.file_lines.specs.Directory.{FileLine, directory_from}
 use Rattle.command_refusals.specs.Ending.{EndsWithoutMemory, RoseIn, SaysIn, Stayed, TookNothing}
 use Rattle.command_answers.specs.Ingested.{EndsIngest, FileOutcome, FromArchive, HasCallCause, IfRefused, PrintsCame, TakesFiles, TakesIn, TakesNothing, line_of_came, logs_of}
 use Rattle.write_commands.specs.IngestPrints.{came_of, names_of}
-use Rattle.write_commands.specs.StepsCauses.{HaveFileCauses}
+use Rattle.file_outcomes.specs.StepsCauses.{HaveFileCauses}
 use Rattle.command_refusals.specs.Reading.{OverJournal}
 use Rattle.command_refusals.specs.Refusal.{line_of, status_of}
-use Rattle.write_commands.specs.Taken.{error_of, line_of_taken, status_of_taken}
+use Rattle.file_outcomes.specs.Taken.{error_of, line_of_taken, status_of_taken}
 use Rattle.command_answers.specs.Taken.{file_error, file_status, gravest}
 use Rattle.command_refusals.specs.declared.outcome.AddRefusal.{AddRefusal}
 use Rattle.command_refusals.specs.Outcome.{of_add}
 use Rattle.command_refusals.specs.declared.refusal.Refusal.TheVariants.{SinkFault}
-use Rattle.write_commands.specs.declared.file_report.FileReport.{FileReport}
-use Rattle.write_commands.proofs.FittingLemmas.{all_fit}
+use Rattle.file_outcomes.specs.declared.file_report.FileReport.{FileReport}
+use Rattle.file_outcomes.proofs.FittingLemmas.{all_fit}
 use Rattle.write_commands.proofs.WholeLemmas.{cut_short, file_causes, full_in_turn}
 
 module _ (content : List ℕ → Option (List ℕ)) where

@@ -27,11 +27,11 @@ use Rattle.command_refusals.specs.Reading.{OverJournal}
 use Rattle.command_refusals.specs.declared.outcome.AddRefusal.{AddRefusal}
 use Rattle.write_commands.specs.declared.ingest.NewLogs.{NewLogs}
 use Rattle.write_commands.specs.StepsAdding.{RefusesNewLogs, names_asked}
-use Rattle.write_commands.specs.Naming.{IsHeldBy}
-use Rattle.write_commands.specs.StepsKnown.{IsNoDamage}
+use Rattle.file_outcomes.specs.Naming.{IsHeldBy}
+use Rattle.file_outcomes.specs.StepsKnown.{IsNoDamage}
 use Rattle.write_commands.proofs.RegisterLemmas.{held_same}
-use Rattle.write_commands.proofs.LeavesLemmas.{from_archive, of_told, opened_as}
-use Rattle.write_commands.proofs.StepsLemmas.{Looked, no_more, same_bytes}
+use Rattle.file_outcomes.proofs.LeavesLemmas.{from_archive, of_told, opened_as}
+use Rattle.file_outcomes.proofs.StepsLemmas.{Looked, no_more, same_bytes}
 
 -- bytes that are refused stand for no journal
 refused_none : (at : ℕ) (told : Option (List ℕ)) → RefusedAt at told → IfSome told StandsForNone

@@ -22,8 +22,8 @@ use Rattle.ingest_workers.specs.Ingested.{HasItsCause, HaveCauses, IsFullByGiven
 use Rattle.command_refusals.specs.declared.outcome.PartCause.{PartCause}
 use Rattle.command_answers.specs.Ingested.{AreCutShort, FileOutcome, IsLeftOf, WasCutShort, names_in}
 use Rattle.write_commands.specs.IngestPrints.{came_of}
-use Rattle.write_commands.specs.Jobs.{DidJobs, IsNotBegun, of_cause, of_opening, refusal_by, sources_of}
-use Rattle.write_commands.specs.declared.file_report.FileReport.{FileReport}
+use Rattle.file_outcomes.specs.Jobs.{DidJobs, IsNotBegun, of_cause, of_opening, refusal_by, sources_of}
+use Rattle.file_outcomes.specs.declared.file_report.FileReport.{FileReport}
 use Rattle.write_commands.proofs.FileCauseLemmas.{at_of}
 use Rattle.write_commands.proofs.TakeInLemmas.{CameBy, CameOfLog}
 

@@ -23,7 +23,7 @@ use Rattle.row_codec.specs.declared.namer.Which.TheVariants.{Types as WhichTypes
 use Rattle.ingest_meaning.specs.Given.{AreAllOf, IsNextOf}
 use Rattle.ingest_meaning.specs.Dictionaries.{IsTextOf}
 use Rattle.ingest_workers.proofs.FullLemmas.{full_by_wider}
-use Rattle.write_commands.proofs.ContentLemmas.{AreJobsOf, given_of_names}
+use Rattle.file_outcomes.proofs.ContentLemmas.{AreJobsOf, given_of_names}
 use Rattle.ingest_workers.specs.declared.job.Job.{Job}
 use Rattle.ingest_workers.specs.declared.outcome.Cause.{Cause}
 use Rattle.ingest_workers.specs.declared.outcome.Outcome.{Outcome}
@@ -34,12 +34,12 @@ use Rattle.ingest_workers.specs.Ingested.{AreRefused, HadNoRoomOver, HasItsCause
 use Rattle.ingest_workers.specs.Outcome.{nothing_done}
 use Rattle.write_commands.specs.IngestPrints.{came_of}
 use Rattle.command_answers.specs.Ingested.{FileOutcome, HasEnded, HasMoreThan, IsNextTooLong, IsStoppedBy, IsThereOrGiven, Logs, WasNotOpened}
-use Rattle.write_commands.specs.Jobs.{DidJobs, IsNotBegun, of_cause, of_opening, refusal_by, sources_of}
-use Rattle.write_commands.specs.StepsCauses.{CameIn, HasCauseIn, Target, into_journal}
+use Rattle.file_outcomes.specs.Jobs.{DidJobs, IsNotBegun, of_cause, of_opening, refusal_by, sources_of}
+use Rattle.file_outcomes.specs.StepsCauses.{CameIn, HasCauseIn, Target, into_journal}
 use Rattle.command_refusals.specs.LogLimits.{IsLong, most_messages}
 use Rattle.command_refusals.specs.declared.outcome.PartCause.{PartCause}
-use Rattle.write_commands.specs.declared.file_report.FileReport.{FileReport}
-use Rattle.write_commands.proofs.FitLemmas.{fit_of_job}
+use Rattle.file_outcomes.specs.declared.file_report.FileReport.{FileReport}
+use Rattle.file_outcomes.proofs.FitLemmas.{fit_of_job}
 use Rattle.write_commands.proofs.LineLemmas.{long_behind}
 use Rattle.write_commands.proofs.TakeInLemmas.{CameBy, CameOfLog}
 

@@ -20,10 +20,10 @@ use Rattle.ingest_workers.specs.Ingested.{IsAsItWas, told_entries}
 use Rattle.command_refusals.specs.GoesOn.{DiskGoesOn}
 use Rattle.command_answers.specs.Ingested.{FileOutcome, FromArchive, TakesIn}
 use Rattle.write_commands.specs.Followed.{Follows, IsLed, RestsBeside, WentAlong}
-use Rattle.write_commands.specs.JournalLeft.{AddsNamesTo, HasNames, HasTakenIn, TakesInto}
-use Rattle.write_commands.specs.Naming.{HasGoneOn, HasNamesMore}
-use Rattle.write_commands.proofs.LeavesLemmas.{counted, from_archive, of_told, stayed_entries}
-use Rattle.write_commands.proofs.StepsLemmas.{Looked, no_more, same_bytes, takes_from, takes_looked}
+use Rattle.file_outcomes.specs.JournalLeft.{AddsNamesTo, HasNames, HasTakenIn, TakesInto}
+use Rattle.file_outcomes.specs.Naming.{HasGoneOn, HasNamesMore}
+use Rattle.file_outcomes.proofs.LeavesLemmas.{counted, from_archive, of_told, stayed_entries}
+use Rattle.file_outcomes.proofs.StepsLemmas.{Looked, no_more, same_bytes, takes_from, takes_looked}
 
 -- ---- the journal with the names
 

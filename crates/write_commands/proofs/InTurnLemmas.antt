@@ -1,16 +1,14 @@
 -- A dictionary that is full with one worker, from the jobs to what came of the files.
-use Rattle.std.proofs.Common.{◌≡◌, ◌+◌, ◌<◌, ◌⊎◌, inl, inr, refl, sym, ap, ap₂, subst, ◌∙◌, ℕ, zero, suc, true, List, [], ◌∷◌, map, take, Option, Some, None, arith}
-use Rattle.std.specs.Prelude.{All, is_some, option_map, slice_get}
+use Rattle.std.proofs.Common.{◌≡◌, ◌+◌, ◌⊎◌, inl, inr, sym, ap, ap₂, subst, ◌∙◌, ℕ, zero, suc, true, List, [], map, take, Option, Some, arith}
+use Rattle.std.specs.Prelude.{All, is_some, slice_get}
 use Rattle.std.specs.List.{Contains}
 use Rattle.std.proofs.lemmas.List.Elements.{All-map, All-weaker}
-use Rattle.std.proofs.lemmas.Option.{get_or_from_slice_get, slice_get_within}
 use Rattle.log_seams.specs.declared.disk.Disk.{Ghosts as DiskGhosts}
 use Rattle.log_seams.specs.declared.refusals.OpenRefused.TheVariants.{Failed, OutOfMemory}
 use Rattle.log_sources.specs.declared.source.LogSource.{LogSource}
 use Rattle.log_sources.specs.declared.source.LogSource.TheVariants.{Opened, Unopened}
 use Rattle.log_sources.specs.Sources.{faults_in, is_opened, left_in, name_in, refusal_of}
 use Rattle.row_codec.specs.declared.namer.Which.{Which}
-use Rattle.row_codec.specs.declared.namer.Which.TheVariants.{Types as WhichTypes, Words as WhichWords}
 use Rattle.message_reader.proofs.VersionLawLemmas.{messages_none}
 use Rattle.disk_journal.specs.declared.journal.Journal.{Journal}
 use Rattle.disk_journal.specs.Journal.{state_of}
@@ -25,35 +23,18 @@ use Rattle.ingest_workers.specs.Ingested.{AreRefused, plan_of, told_entries}
 use Rattle.ingest_meaning.specs.Dictionaries.{book_texts}
 use Rattle.ingest_workers.specs.JobDone.{in_source}
 use Rattle.ingest_workers.specs.Met.{WasMet}
-use Rattle.ingest_workers.specs.Outcome.{met_by, unsealed_by}
+use Rattle.ingest_workers.specs.Outcome.{met_by}
 use Rattle.ingest_workers.proofs.FullLemmas.{full_by_wider}
 use Rattle.write_commands.specs.IngestPrints.{came_of}
 use Rattle.command_answers.specs.Ingested.{FileOutcome, WasMetIn, WasMetInOneOf, unsealed_of}
-use Rattle.write_commands.specs.Jobs.{DidJobs, IsNotBegun, of_cause, refusal_by}
-use Rattle.write_commands.specs.StepsCauses.{AreFullInto, Target, into_journal}
+use Rattle.file_outcomes.specs.Jobs.{DidJobs, IsNotBegun, refusal_by}
+use Rattle.file_outcomes.specs.StepsCauses.{AreFullInto, Target, into_journal}
 use Rattle.command_refusals.specs.declared.outcome.PartCause.{PartCause}
-use Rattle.write_commands.specs.declared.file_report.FileReport.{FileReport}
-use Rattle.write_commands.proofs.ContentLemmas.{AreJobsOf}
+use Rattle.file_outcomes.specs.declared.file_report.FileReport.{FileReport}
+use Rattle.file_outcomes.proofs.ContentLemmas.{AreJobsOf}
+use Rattle.file_outcomes.proofs.RefusalLemmas.{among_first, first_at, full_cause, text_wider, unsealed_same}
 use Rattle.write_commands.proofs.FileCauseLemmas.{at_of}
 use Rattle.write_commands.proofs.TakeInLemmas.{CameBy, CameOfLog}
-
--- ---- the first elements of a list
-
--- what stands among the first so many stands at the same place of all
-pub first_at : {A : Type 0} (xs : List A) (n i : ℕ) (x : A) → slice_get (take n xs) i ≡ Some x → (i < n) × (slice_get xs i ≡ Some x)
-first_at xs zero i x at = absurd (cc (at))
-first_at [] (suc n) i x at = absurd (cc (at))
-first_at (y ∷ xs) (suc n) zero x at = (omega arith, at)
-first_at (y ∷ xs) (suc n) (suc i) x at = let rest = first_at xs n i x at in (omega (arith, rest.0), rest.1)
-
-at_first : {A : Type 0} (xs : List A) (n i : ℕ) (x : A) → i < n → slice_get xs i ≡ Some x → slice_get (take n xs) i ≡ Some x
-at_first xs zero i x low at = absurd (omega (arith, low))
-at_first [] (suc n) i x low at = at
-at_first (y ∷ xs) (suc n) zero x low at = at
-at_first (y ∷ xs) (suc n) (suc i) x low at = at_first xs n i x (omega (arith, low)) at
-
-pub among_first : {A : Type 0} (xs : List A) (n i : ℕ) (x : A) → i < n → slice_get xs i ≡ Some x → Contains (take n xs) x
-among_first xs n i x low at = let here = at_first xs n i x low at in (i, slice_get_within (take n xs) i x here, get_or_from_slice_get (take n xs) i x x here)
 
 -- a log without bytes has no message
 none_first : (n : ℕ) (m : List ℕ) → Contains (take n []) m → ⊥
@@ -62,33 +43,6 @@ none_first (suc n) m among = omega (arith, among.1)
 
 none_met : (version n : ℕ) (m : List ℕ) → IsAmongFirst version (Some []) n m → ⊥
 none_met version n m met = none_first n m (met [] true (messages_none version))
-
-pub text_wider : (version : ℕ) (P Q : List ℕ → Type 0) → ((m : List ℕ) → P m → Q m) → (book : Which) (t : List ℕ) → IsTextOf version P book t → IsTextOf version Q book t
-text_wider version P Q on WhichTypes t is = (is.0, on is.0 is.1, is.2)
-text_wider version P Q on WhichWords t is = (is.0, on is.0 is.1, is.2)
-
--- ---- causes of jobs, and refusals of files
-
--- as many messages may have been met by the one as by the other
-pub unsealed_same : (rows : ℕ) (cause : Option Cause) → unsealed_of rows (option_map of_cause cause) ≡ unsealed_by rows cause
-unsealed_same rows None = refl
-unsealed_same rows (Some Cause.ReadFault) = refl
-unsealed_same rows (Some (Cause.LineTooLong line)) = refl
-unsealed_same rows (Some Cause.TooManyLines) = refl
-unsealed_same rows (Some (Cause.Full book count)) = refl
-unsealed_same rows (Some (Cause.DiskFault opened now)) = refl
-unsealed_same rows (Some Cause.OutOfMemory) = refl
-unsealed_same rows (Some (Cause.ArchiveFull end need)) = refl
-
-pub full_cause : (cause : Option Cause) (book : Which) (count : ℕ) → option_map of_cause cause ≡ Some (PartCause.Full book count) → cause ≡ Some (Cause.Full book count)
-full_cause None book count is = absurd (cc (is))
-full_cause (Some Cause.ReadFault) book count is = absurd (cc (is))
-full_cause (Some (Cause.LineTooLong line)) book count is = absurd (cc (is))
-full_cause (Some Cause.TooManyLines) book count is = absurd (cc (is))
-full_cause (Some (Cause.Full b n)) book count is = cc (is)
-full_cause (Some (Cause.DiskFault opened now)) book count is = absurd (cc (is))
-full_cause (Some Cause.OutOfMemory) book count is = absurd (cc (is))
-full_cause (Some (Cause.ArchiveFull end need)) book count is = absurd (cc (is))
 
 -- ---- files and their jobs
 

@@ -18,8 +18,8 @@ use Rattle.ingest_workers.specs.Ingested.{AreNew, IsAsItWas, IsLeftBy, first_fil
 use Rattle.ingest_workers.specs.Journal.{Holds}
 use Rattle.ingest_workers.specs.declared.job.Job.{Job}
 use Rattle.command_refusals.specs.GoesOn.{DiskGoesOn}
-use Rattle.write_commands.specs.Jobs.{DidJobs}
-use Rattle.write_commands.specs.Naming.{AreNumbered, HasGoneOn, IsJobOf, IsNamed}
+use Rattle.file_outcomes.specs.Jobs.{DidJobs}
+use Rattle.file_outcomes.specs.Naming.{AreNumbered, HasGoneOn, IsJobOf, IsNamed}
 use Rattle.command_refusals.proofs.GoingLemmas.{DiskGoesOn-same}
 
 -- ---- lists that grow by one

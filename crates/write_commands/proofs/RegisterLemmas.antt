@@ -30,11 +30,11 @@ use Rattle.ingest_meaning.specs.declared.refusal.RegisterRefusal.{RegisterRefusa
 use Rattle.disk_seal.proofs.NextLemmas.{gate_at}
 use Rattle.ingest_workers.specs.Ingested.{told_entries}
 use Rattle.command_answers.specs.Ingested.{FromArchive, LeavesJournal, StandsForEither, TakesNothing}
-use Rattle.write_commands.specs.JournalLeft.{AddsNamesTo, StandsBetween}
-use Rattle.write_commands.specs.Naming.{IsHeldBy}
-use Rattle.write_commands.proofs.AppendLemmas.{AppendsNames, legal_with, told_named}
-use Rattle.write_commands.proofs.LeavesLemmas.{either_leaves, of_told, opened_as, prefix_same}
-use Rattle.write_commands.proofs.StepsLemmas.{same_nothing}
+use Rattle.file_outcomes.specs.JournalLeft.{AddsNamesTo, StandsBetween}
+use Rattle.file_outcomes.specs.Naming.{IsHeldBy}
+use Rattle.file_outcomes.proofs.AppendLemmas.{AppendsNames, legal_with, told_named}
+use Rattle.file_outcomes.proofs.LeavesLemmas.{either_leaves, of_told, opened_as, prefix_same}
+use Rattle.file_outcomes.proofs.StepsLemmas.{same_nothing}
 
 -- what stands for the records that are told, or for these and the names, stands for the journal or for it with the names
 either_of : (h : Header) (names : List (List ℕ)) (told : Option (List ℕ)) (count : ℕ) (c : List ℕ) → IsHeader h → is_some told ≡ true → entries told count ≡ records_of (journal_in told count) → IsLegal h (journal_in told count)

@@ -30,15 +30,15 @@ use Rattle.ingest_workers.specs.Ingested.{AreRefused, HasIngested, IsAsItWas, pl
 use Rattle.ingest_workers.specs.JobDone.{in_source}
 use Rattle.write_commands.specs.IngestPrints.{came_of, names_of}
 use Rattle.command_answers.specs.Ingested.{FileOutcome, IsOfNew}
-use Rattle.write_commands.specs.Jobs.{DidJobs, IsNotBegun, IsToldBy, opens_of, refusal_by, sources_of}
-use Rattle.write_commands.specs.JournalLeft.{HasNames, IsLogOf, TakesInto}
-use Rattle.write_commands.specs.Naming.{AreNumbered}
+use Rattle.file_outcomes.specs.Jobs.{DidJobs, IsNotBegun, IsToldBy, opens_of, refusal_by, sources_of}
+use Rattle.file_outcomes.specs.JournalLeft.{HasNames, IsLogOf, TakesInto}
+use Rattle.file_outcomes.specs.Naming.{AreNumbered}
 use Rattle.command_refusals.specs.declared.outcome.PartCause.{PartCause}
-use Rattle.write_commands.specs.declared.file_report.FileReport.{FileReport}
+use Rattle.file_outcomes.specs.declared.file_report.FileReport.{FileReport}
 use Rattle.write_commands.proofs.CameLemmas.{names_came}
-use Rattle.write_commands.proofs.ContentLemmas.{AreJobsOf, CameOfJob, ingested_taken, named_at, none_told, refused_taken, taken_in}
+use Rattle.file_outcomes.proofs.ContentLemmas.{AreJobsOf, CameOfJob, ingested_taken, named_at, none_told, refused_taken, taken_in}
 use Rattle.write_commands.proofs.JobLemmas.{numbered_at}
-use Rattle.write_commands.proofs.LeavesLemmas.{of_told, same_leaves}
+use Rattle.file_outcomes.proofs.LeavesLemmas.{of_told, same_leaves}
 
 -- ---- the journal with the names
 

@@ -21,13 +21,13 @@ use Rattle.record_format.specs.declared.header.Header.{Header}
 use Rattle.disk_journal.specs.State.{JournalState}
 use Rattle.command_refusals.specs.Outside.{Outside}
 use Rattle.command_answers.specs.Ingested.{AreCutShort, AreFullInTurn, CameOfFile, DidNotFit, FileOutcome, FromArchive, HasFileCause, HasMoreThan, IsFullByGiven, IsFullInTurn, IsGiven, IsNextTooLong, Logs, OfTaken, WasMetInOneOf, logs_of, names_in}
-use Rattle.write_commands.specs.StepsCauses.{AreFullInto, CameIn, HasCauseIn, HaveCausesIn, HaveFileCauses, IsTarget, Target, into_journal}
-use Rattle.write_commands.specs.JournalLeft.{AddsNamesTo, HasNames}
+use Rattle.file_outcomes.specs.StepsCauses.{AreFullInto, CameIn, HasCauseIn, HaveCausesIn, HaveFileCauses, IsTarget, Target, into_journal}
+use Rattle.file_outcomes.specs.JournalLeft.{AddsNamesTo, HasNames}
 use Rattle.command_refusals.specs.LogLimits.{most_messages}
 use Rattle.command_refusals.specs.declared.outcome.PartCause.{PartCause}
-use Rattle.write_commands.proofs.FitLemmas.{fit_into}
-use Rattle.write_commands.proofs.LeavesLemmas.{from_archive, of_told}
-use Rattle.write_commands.proofs.StepsLemmas.{Looked, no_more, same_bytes}
+use Rattle.file_outcomes.proofs.FitLemmas.{fit_into}
+use Rattle.file_outcomes.proofs.LeavesLemmas.{from_archive, of_told}
+use Rattle.file_outcomes.proofs.StepsLemmas.{Looked, no_more, same_bytes}
 
 -- ---- from the start of the call
 

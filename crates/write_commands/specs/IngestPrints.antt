@@ -1,7 +1,7 @@
 -- What came of files, as `ingest` tells it.
 use Rattle.std.specs.Prelude.{ℕ, List, Option, map}
 use Rattle.command_answers.specs.Ingested.{FileOutcome}
-use Rattle.write_commands.specs.declared.file_report.FileReport.{FileReport}
+use Rattle.file_outcomes.specs.declared.file_report.FileReport.{FileReport}
 
 -- what came of a file, as it is told, where this is told of logs by their names
 abbrev pub came_of : (List ℕ → Option (List ℕ)) → FileReport → FileOutcome

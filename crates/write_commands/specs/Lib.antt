@@ -1,11 +1,4 @@
 pub mod Followed
 pub mod IngestPrints
-pub mod Jobs
-pub mod JournalAt
-pub mod JournalLeft
 pub mod Laws
-pub mod Naming
 pub mod StepsAdding
-pub mod StepsCauses
-pub mod Taken
-pub mod StepsKnown

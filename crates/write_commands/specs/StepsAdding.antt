@@ -7,10 +7,10 @@ use Rattle.command_refusals.specs.Reading.{OverJournal}
 use Rattle.command_refusals.specs.declared.outcome.AddRefusal.{AddRefusal}
 use Rattle.command_answers.specs.Ingested.{FromArchive, HasCallCause, Logs, TakesIn, TakesNothing}
 use Rattle.command_answers.specs.Names.{RefusesNames}
-use Rattle.write_commands.specs.declared.file_report.FileReport.{FileReport}
+use Rattle.file_outcomes.specs.declared.file_report.FileReport.{FileReport}
 use Rattle.write_commands.specs.declared.ingest.NewLogs.{NewLogs}
 use Rattle.write_commands.specs.IngestPrints.{came_of, names_of}
-use Rattle.write_commands.specs.StepsCauses.{HaveFileCauses}
+use Rattle.file_outcomes.specs.StepsCauses.{HaveFileCauses}
 
 -- ---- what is asked
 

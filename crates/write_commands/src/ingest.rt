@@ -14,24 +14,21 @@ ghost use Rattle.command_answers.specs.Ingested.{TellsDamage};
 ghost use Rattle.command_answers.specs.Known.{over, told_if};
 ghost use Rattle.write_commands.specs.Followed.{FollowsBy, MayBeginAt, WentAlong};
 ghost use Rattle.write_commands.specs.IngestPrints.{came_of, names_of};
-ghost use Rattle.write_commands.specs.Jobs.{DidJobs, IsNotBegun, IsToldBy, opens_of, refusal_by, sources_of};
+ghost use Rattle.file_outcomes.specs.Jobs.{DidJobs, IsNotBegun, IsToldBy, opens_of, refusal_by, sources_of};
 ghost use Rattle.write_commands.specs.StepsAdding.{AddsNewLogs, AddsOrRefuses, HasRoomFor, IsInLimits, MayAdd, RefusesNewLogs, ShelfGoesOn, names_asked};
-ghost use Rattle.write_commands.specs.StepsCauses.{HaveCausesIn, into_journal, logs_around};
-ghost use Rattle.write_commands.specs.StepsKnown.{EndsIngestAt, IsNoDamage, lent_state};
-ghost use Rattle.write_commands.specs.JournalAt.{state_at};
-ghost use Rattle.write_commands.specs.JournalLeft.{TakesInto};
+ghost use Rattle.file_outcomes.specs.StepsCauses.{HaveCausesIn, into_journal, logs_around};
+ghost use Rattle.file_outcomes.specs.StepsKnown.{EndsIngestAt, IsNoDamage, lent_state};
+ghost use Rattle.file_outcomes.specs.JournalAt.{state_at};
+ghost use Rattle.file_outcomes.specs.JournalLeft.{TakesInto};
 ghost use Rattle.command_answers.specs.Names.{RefusesNames};
-ghost use Rattle.write_commands.specs.Naming.{AreNumbered, HasGoneOn, IsHeldBy, IsNamed};
+ghost use Rattle.file_outcomes.specs.Naming.{AreNumbered, HasGoneOn, IsHeldBy, IsNamed};
 ghost use Rattle.command_refusals.specs.Ending.{RefusesAtOnce};
 ghost use Rattle.command_refusals.specs.Reading.{IsArchive};
 ghost use Rattle.command_refusals.specs.declared.outcome.AddRefusal.{AddRefusal};
 ghost use Rattle.command_refusals.specs.Outcome.{of_add};
 
-use crate::file_report::{FileReport, part_cause, report_taken};
-use crate::founded::{Base, Founded, Lent, PartedJournal, part_journal};
-use crate::journal_end::{JournalEnd, OpenedArchive};
 use crate::names::refuse_names;
-use crate::register::{Holding, Named, hold, name_files};
+use crate::register::{Named, name_files};
 use archive_core::Books;
 use archive_open::{Archive, open_for_append};
 use command_refusals::{AddRefusal, PartCause, Refusal, refusal_of_add, report};
@@ -39,6 +36,10 @@ use command_words::IngestWords;
 use disk_journal::{Journal, start};
 use disk_seal::{Alone, Beside};
 use file_lines::print_directory;
+use file_outcomes::{
+    Base, FileReport, Founded, Holding, JournalEnd, Lent, OpenedArchive, PartedJournal, hold,
+    part_cause, part_journal, report_taken,
+};
 use ingest_workers::{Cause, Job, Split, ingest_beside};
 use log_seams::{Disk, OpenRefused, Shelf, Sink, Source};
 use log_sources::{LogSource, close_logs, open_logs};

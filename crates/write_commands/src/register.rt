@@ -3,46 +3,21 @@ ghost use Rattle.std.specs.Prelude.{◌≡◌, length, map, IfErr, IfOk, OnErr, 
 ghost use Rattle.disk_journal.specs.Journal.{state_of};
 ghost use Rattle.command_refusals.specs.GoesOn.{DiskGoesOn};
 ghost use Rattle.command_answers.specs.Ingested.{FromArchive, HasCallCause, TakesNothing};
-ghost use Rattle.write_commands.specs.JournalLeft.{AddsNamesTo};
-ghost use Rattle.write_commands.specs.Naming.{HasNamesMore, IsHeldBy, IsNamed};
+ghost use Rattle.file_outcomes.specs.JournalLeft.{AddsNamesTo};
+ghost use Rattle.file_outcomes.specs.Naming.{HasNamesMore, IsHeldBy, IsNamed};
 ghost use Rattle.write_commands.specs.StepsAdding.{AreAccepted};
-ghost use Rattle.write_commands.specs.StepsKnown.{IsNoDamage};
+ghost use Rattle.file_outcomes.specs.StepsKnown.{IsNoDamage};
 ghost use Rattle.log_sources.specs.Sources.{str_bytes};
 
 use crate::names::refuse_more;
-use archive_core::Books;
 use command_refusals::AddRefusal;
 use dict_core::Book;
 use disk_journal::Journal;
 use disk_seal::register;
+use file_outcomes::Holding;
 use log_seams::Disk;
 use plain_list::{Text, TextList};
 use std::alloc::{AllocError, Global};
-
-/// What an archive has that was opened.
-#[derive(Drop)]
-pub struct Holding {
-    /// The texts of log types.
-    pub types: Book,
-    /// The words of variables.
-    pub words: Book,
-    /// How many files there are.
-    pub files: u64,
-}
-
-/// What an archive has that was opened with these books and so many files.
-pub fn hold(books: Books, files: u64) -> Holding
-    ensures types { result.types ≡ books.types }
-    ensures words { result.words ≡ books.words }
-    ensures files { result.files ≡ files }
-{
-    let Books { types, words, .. } = books;
-    Holding {
-        types,
-        words,
-        files,
-    }
-}
 
 /// An archive that was opened, and in which new files have their names.
 #[derive(Drop)]

@@ -6,14 +6,14 @@ use Rattle.command_answers.specs.Benched.{generated_names, segment_rows}
 use Rattle.write_commands.specs.IngestPrints.{came_of, names_of}
 use Rattle.command_answers.specs.Ingested.{FileOutcome, FromArchive, HasCallCause, TakesIn}
 use Rattle.command_answers.specs.Names.{RefusesNames}
-use Rattle.write_commands.specs.StepsCauses.{HaveFileCauses}
+use Rattle.file_outcomes.specs.StepsCauses.{HaveFileCauses}
 use Rattle.command_refusals.specs.declared.outcome.AddRefusal.TheVariants.{OutOfMemory}
-use Rattle.write_commands.specs.declared.file_report.FileReport.{FileReport}
+use Rattle.file_outcomes.specs.declared.file_report.FileReport.{FileReport}
 use Rattle.bench_command.proofs.BenchLemmas.{logs_added, refused_logs}
 use Rattle.write_commands.proofs.CameLemmas.{logs_came, names_came}
 use Rattle.write_commands.proofs.CauseLemmas.{names_cause}
 use Rattle.bench_command.proofs.LogCauseLemmas.{log_causes, logs_spared}
-use Rattle.write_commands.proofs.StepsLemmas.{same_nothing}
+use Rattle.file_outcomes.proofs.StepsLemmas.{same_nothing}
 use Rattle.bench_command.proofs.bench_archive.add_logs.Goals as goal
 
 pub returns-in-Some-clause-ends : goal.returns-in-Some-clause-ends

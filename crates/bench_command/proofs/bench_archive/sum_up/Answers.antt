@@ -1,6 +1,6 @@
 use Rattle.std.proofs.Common.{◌≡◌, ◌∙◌, inl, inr, refl, sym, rules, None}
 use Rattle.std.specs.List.{All}
-use Rattle.write_commands.specs.declared.file_report.FileReport.{FileReport}
+use Rattle.file_outcomes.specs.declared.file_report.FileReport.{FileReport}
 use Rattle.bench_command.proofs.BenchLemmas.{ends_none, ends_some, parts_told, summed_up}
 use Rattle.bench_command.proofs.bench_archive.sum_up.Goals as goal
 

@@ -3,9 +3,9 @@ use Rattle.std.specs.Prelude.{IfErr, IfOk}
 use Rattle.command_answers.specs.Known.{told_if}
 use Rattle.command_answers.specs.Merging.{Merges}
 use Rattle.merge_command.specs.Came.{merge_of, refused_by}
-use Rattle.write_commands.specs.Naming.{IsHeldBy}
-use Rattle.write_commands.specs.declared.founded.Founded.{Founded}
-use Rattle.write_commands.proofs.LentLemmas.{of_parts}
+use Rattle.file_outcomes.specs.Naming.{IsHeldBy}
+use Rattle.file_outcomes.specs.declared.founded.Founded.{Founded}
+use Rattle.file_outcomes.proofs.LentLemmas.{of_parts}
 use Rattle.merge_command.proofs.merge.add_founded.Goals as goal
 
 pub add_second-answer-requires : goal.add_second-answer-requires

@@ -1,4 +1,4 @@
-use Rattle.write_commands.proofs.KnownLemmas.{are_archive}
+use Rattle.file_outcomes.proofs.KnownLemmas.{are_archive}
 use Rattle.merge_command.proofs.merge.add_known.Goals as goal
 
 pub add_lent-requires : goal.add_lent-requires

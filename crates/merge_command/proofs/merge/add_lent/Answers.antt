@@ -12,10 +12,10 @@ use Rattle.command_refusals.proofs.GoingLemmas.{DiskGoesOn-joined}
 use Rattle.command_answers.specs.Known.{told_if}
 use Rattle.command_answers.specs.Merging.{Merges, TellsInOrder}
 use Rattle.merge_command.specs.Came.{merge_by, merge_of, refused_by}
-use Rattle.write_commands.specs.StepsKnown.{lent_state}
-use Rattle.write_commands.proofs.AppendLemmas.{is_held}
-use Rattle.write_commands.proofs.HeldLemmas.{once_goes, once_keeps, opened_once}
-use Rattle.write_commands.proofs.LentLemmas.{goes_told, keeps_twice, looked_told, opens_from, opens_told}
+use Rattle.file_outcomes.specs.StepsKnown.{lent_state}
+use Rattle.file_outcomes.proofs.AppendLemmas.{is_held}
+use Rattle.file_outcomes.proofs.HeldLemmas.{once_goes, once_keeps, opened_once}
+use Rattle.file_outcomes.proofs.LentLemmas.{goes_told, keeps_twice, looked_told, opens_from, opens_told}
 use Rattle.merge_command.proofs.OpeningLemmas.{behind_tells, can_be_opened, merges_sooner, open_refuses, opening_merges, opening_tells, start_refuses, steady_with, tells_with}
 use Rattle.merge_command.proofs.WholeLemmas.{err_with}
 use Rattle.merge_command.proofs.merge.add_lent.Goals as goal

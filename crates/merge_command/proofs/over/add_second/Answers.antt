@@ -10,7 +10,7 @@ use Rattle.command_refusals.specs.GoesOn.{DiskGoesOn}
 use Rattle.command_refusals.proofs.GoingLemmas.{DiskGoesOn-kept, DiskGoesOn-seen}
 use Rattle.command_answers.specs.Merging.{Merges}
 use Rattle.merge_command.specs.Came.{kept_by, merge_of, name_at, refused_by, view_shown}
-use Rattle.write_commands.specs.JournalAt.{state_at}
+use Rattle.file_outcomes.specs.JournalAt.{state_at}
 use Rattle.merge_command.proofs.OpeningLemmas.{agree_behind, second_behind}
 use Rattle.merge_command.proofs.WholeLemmas.{agree_refuses, behind, err_with, merges, second_refuses, view_told}
 use Rattle.merge_command.proofs.over.add_second.Goals as goal

@@ -1,6 +1,6 @@
 use Rattle.std.proofs.Common.{arith}
 use Rattle.command_answers.specs.Taken.{file_error, file_status}
-use Rattle.write_commands.proofs.TakenLemmas.{gravest_next, said_next}
+use Rattle.file_outcomes.proofs.TakenLemmas.{gravest_next, said_next}
 use Rattle.upgrade_command.specs.declared.report.NewFile.{NewFile}
 use Rattle.upgrade_command.proofs.report.report_files.Goals as goal
 

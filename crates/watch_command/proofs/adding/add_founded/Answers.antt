@@ -4,10 +4,10 @@ use Rattle.log_sources.specs.Sources.{str_bytes}
 use Rattle.command_answers.specs.Known.{told_if}
 use Rattle.write_commands.specs.Followed.{FollowsBy, MayBeginAt}
 use Rattle.write_commands.specs.IngestPrints.{came_of}
-use Rattle.write_commands.specs.Naming.{IsHeldBy}
+use Rattle.file_outcomes.specs.Naming.{IsHeldBy}
 use Rattle.write_commands.specs.StepsAdding.{AddsOrRefuses}
-use Rattle.write_commands.specs.StepsCauses.{logs_around}
-use Rattle.write_commands.proofs.LentLemmas.{of_parts}
+use Rattle.file_outcomes.specs.StepsCauses.{logs_around}
+use Rattle.file_outcomes.proofs.LentLemmas.{of_parts}
 use Rattle.watch_command.proofs.adding.add_founded.Goals as goal
 
 pub add_over-answer-requires-clause-held : goal.add_over-answer-requires-clause-held

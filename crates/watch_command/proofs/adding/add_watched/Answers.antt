@@ -18,13 +18,15 @@ use Rattle.command_answers.specs.Known.{told_if}
 use Rattle.write_commands.specs.Followed.{Follows}
 use Rattle.write_commands.specs.IngestPrints.{came_of}
 use Rattle.write_commands.specs.StepsAdding.{AddsNewLogs, RefusesNewLogs}
-use Rattle.write_commands.specs.StepsCauses.{logs_around}
-use Rattle.write_commands.specs.StepsKnown.{IsNoDamage, lent_state}
-use Rattle.write_commands.proofs.AppendLemmas.{is_held, may_append}
+use Rattle.file_outcomes.specs.StepsCauses.{logs_around}
+use Rattle.file_outcomes.specs.StepsKnown.{IsNoDamage, lent_state}
+use Rattle.file_outcomes.proofs.AppendLemmas.{is_held, may_append}
 use Rattle.write_commands.proofs.CauseLemmas.{archive_cause, cause_sooner, refused_with, refuses_with, start_cause}
-use Rattle.write_commands.proofs.HeldLemmas.{adds_looked, refuses_looked, rests_keep}
-use Rattle.write_commands.proofs.LentLemmas.{archive_damage, damage_sooner, damaged_with, goes_told, keeps_twice, looked_told, no_damage, opens_from, opens_told, refuses_told, start_damage}
-use Rattle.write_commands.proofs.StepsLemmas.{Looked, kept_nothing, looked_nothing}
+use Rattle.file_outcomes.proofs.HeldLemmas.{rests_keep}
+use Rattle.write_commands.proofs.LookedLemmas.{adds_looked, refuses_looked}
+use Rattle.file_outcomes.proofs.LentLemmas.{goes_told, keeps_twice, looked_told, opens_from, opens_told}
+use Rattle.write_commands.proofs.DamageLemmas.{archive_damage, damage_sooner, damaged_with, no_damage, refuses_told, start_damage}
+use Rattle.file_outcomes.proofs.StepsLemmas.{Looked, kept_nothing, looked_nothing}
 use Rattle.watch_command.specs.StepsWatched.{AddsWatched, from_live}
 use Rattle.watch_command.proofs.WatchedLemmas.{keeps_end, keeps_late, kept_by, looked_end, looked_late, may_begin, opened_twice, twice_goes, was_watched}
 use Rattle.watch_command.proofs.adding.add_watched.Goals as goal

@@ -4,7 +4,7 @@ use Rattle.std.specs.List.{flat_map}
 use Rattle.command_refusals.specs.Outcome.{answer_of, from_print, of_read}
 use Rattle.command_refusals.specs.Refusal.{Says, line_of}
 use Rattle.command_answers.specs.Taken.{gravest_of_call}
-use Rattle.write_commands.specs.Taken.{error_of}
+use Rattle.file_outcomes.specs.Taken.{error_of}
 use Rattle.watch_command.proofs.RestLemmas.{TellsOther, TellsReader, rest_cut, rest_told, tells_cut, tells_files}
 use Rattle.watch_command.proofs.lines.print_rest.Goals.{in-Ok, in-Err}
 use Rattle.watch_command.proofs.lines.print_rest.Goals as goal

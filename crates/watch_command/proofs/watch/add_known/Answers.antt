@@ -1,4 +1,4 @@
-use Rattle.write_commands.proofs.KnownLemmas.{are_archive}
+use Rattle.file_outcomes.proofs.KnownLemmas.{are_archive}
 use Rattle.watch_command.proofs.watch.add_known.Goals as goal
 
 pub add_lent-answer-requires-clause-archive : goal.add_lent-answer-requires-clause-archive

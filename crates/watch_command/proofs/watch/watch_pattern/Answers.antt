@@ -3,9 +3,9 @@ use Rattle.std.proofs.lemmas.List.{length-map}
 use Rattle.log_sources.specs.Sources.{str_bytes}
 use Rattle.command_refusals.specs.Outcome.{answer_of}
 use Rattle.command_answers.specs.Known.{are_of, over}
-use Rattle.write_commands.specs.StepsCauses.{logs_around}
-use Rattle.write_commands.specs.declared.file_report.FileReport.{FileReport}
-use Rattle.write_commands.proofs.KnownLemmas.{tells_alike}
+use Rattle.file_outcomes.specs.StepsCauses.{logs_around}
+use Rattle.file_outcomes.specs.declared.file_report.FileReport.{FileReport}
+use Rattle.file_outcomes.proofs.KnownLemmas.{tells_alike}
 use Rattle.write_commands.proofs.NameLemmas.{none_refused}
 use Rattle.watch_command.specs.StepsWatched.{AddsWatched}
 use Rattle.watch_command.proofs.BehindLemmas.{watches_came}

@@ -1,9 +1,10 @@
 use Rattle.std.proofs.Common.{refl, subst}
 use Rattle.command_answers.specs.Known.{told_if}
-use Rattle.write_commands.specs.Naming.{IsHeldBy}
+use Rattle.file_outcomes.specs.Naming.{IsHeldBy}
 use Rattle.write_commands.specs.StepsAdding.{AddsOrRefuses}
-use Rattle.write_commands.specs.StepsCauses.{logs_around}
-use Rattle.write_commands.proofs.LentLemmas.{begins_at, of_parts}
+use Rattle.file_outcomes.specs.StepsCauses.{logs_around}
+use Rattle.file_outcomes.proofs.LentLemmas.{of_parts}
+use Rattle.write_commands.proofs.DamageLemmas.{begins_at}
 use Rattle.write_commands.proofs.ingest.add_founded.Goals as goal
 
 pub add_over-answer-requires-clause-held : goal.add_over-answer-requires-clause-held

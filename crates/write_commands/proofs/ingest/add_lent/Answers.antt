@@ -10,14 +10,16 @@ use Rattle.command_refusals.specs.Reading.{IsArchive}
 use Rattle.command_answers.specs.Ingested.{TellsDamage}
 use Rattle.command_answers.specs.Known.{told_if}
 use Rattle.write_commands.specs.StepsAdding.{AddsNewLogs, RefusesNewLogs}
-use Rattle.write_commands.specs.StepsCauses.{logs_around}
-use Rattle.write_commands.specs.StepsKnown.{lent_state}
+use Rattle.file_outcomes.specs.StepsCauses.{logs_around}
+use Rattle.file_outcomes.specs.StepsKnown.{lent_state}
 use Rattle.command_refusals.proofs.GoingLemmas.{DiskGoesOn-joined}
-use Rattle.write_commands.proofs.AppendLemmas.{is_held}
+use Rattle.file_outcomes.proofs.AppendLemmas.{is_held}
 use Rattle.write_commands.proofs.CauseLemmas.{archive_cause, cause_sooner, refused_with, refuses_with, start_cause}
-use Rattle.write_commands.proofs.HeldLemmas.{adds_looked, once_first, once_goes, once_keeps, once_nothing, opened_once, refuses_looked, rests_keep}
-use Rattle.write_commands.proofs.LentLemmas.{archive_damage, damage_sooner, damaged_with, goes_told, looked_told, no_damage, opens_from, opens_told, refuses_told, start_damage}
-use Rattle.write_commands.proofs.StepsLemmas.{kept_nothing}
+use Rattle.file_outcomes.proofs.HeldLemmas.{once_first, once_goes, once_keeps, once_nothing, opened_once, rests_keep}
+use Rattle.write_commands.proofs.LookedLemmas.{adds_looked, refuses_looked}
+use Rattle.file_outcomes.proofs.LentLemmas.{goes_told, looked_told, opens_from, opens_told}
+use Rattle.write_commands.proofs.DamageLemmas.{archive_damage, damage_sooner, damaged_with, no_damage, refuses_told, start_damage}
+use Rattle.file_outcomes.proofs.StepsLemmas.{kept_nothing}
 use Rattle.write_commands.proofs.ingest.add_lent.Goals as goal
 
 -- ---- refused

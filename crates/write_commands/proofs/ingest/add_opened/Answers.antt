@@ -2,12 +2,12 @@ use Rattle.std.proofs.Common.{map, refl, ◌∙◌}
 use Rattle.disk_journal.specs.Journal.{state_of}
 use Rattle.log_sources.specs.Sources.{str_bytes}
 use Rattle.write_commands.specs.IngestPrints.{came_of}
-use Rattle.write_commands.specs.Naming.{HasGoneOn}
+use Rattle.file_outcomes.specs.Naming.{HasGoneOn}
 use Rattle.command_refusals.proofs.GoingLemmas.{DiskGoesOn-joined}
 use Rattle.write_commands.proofs.CameLemmas.{names_came}
 use Rattle.write_commands.proofs.FollowLemmas.{follows_sooner, may_named}
-use Rattle.write_commands.proofs.HeldLemmas.{held_synced}
-use Rattle.write_commands.proofs.StepsLemmas.{numbered_from, same_looked, takes_sooner}
+use Rattle.file_outcomes.proofs.HeldLemmas.{held_synced}
+use Rattle.file_outcomes.proofs.StepsLemmas.{numbered_from, same_looked, takes_sooner}
 use Rattle.write_commands.proofs.WholeLemmas.{causes_sooner}
 use Rattle.write_commands.proofs.ingest.add_opened.Goals as goal
 

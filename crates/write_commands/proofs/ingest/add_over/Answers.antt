@@ -4,7 +4,7 @@ use Rattle.command_refusals.specs.GoesOn.{DiskGoesOn}
 use Rattle.write_commands.specs.Followed.{FollowsBy}
 use Rattle.write_commands.specs.IngestPrints.{came_of}
 use Rattle.write_commands.specs.StepsAdding.{AddsOrRefuses}
-use Rattle.write_commands.specs.StepsCauses.{logs_around}
+use Rattle.file_outcomes.specs.StepsCauses.{logs_around}
 use Rattle.write_commands.proofs.ingest.add_over.Goals as goal
 
 pub add_opened-added-requires-clause-held : goal.add_opened-added-requires-clause-held

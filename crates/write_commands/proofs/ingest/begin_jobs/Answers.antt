@@ -1,7 +1,7 @@
 use Rattle.std.proofs.Common.{arith, ap, Some, ◌∙◌, ◌∷◌, []}
 use Rattle.std.proofs.lemmas.List.{map-append}
 use Rattle.log_sources.specs.Sources.{is_opened, refusal_of}
-use Rattle.write_commands.specs.Jobs.{opens_of, sources_of}
+use Rattle.file_outcomes.specs.Jobs.{opens_of, sources_of}
 use Rattle.write_commands.proofs.JobLemmas.{numbered_next}
 use Rattle.write_commands.proofs.PopLemmas.{popped_next}
 use Rattle.write_commands.proofs.ingest.begin_jobs.Goals as goal

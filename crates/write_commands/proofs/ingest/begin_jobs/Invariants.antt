@@ -1,7 +1,7 @@
 use Rattle.std.proofs.Common.{◌≡◌, ◌+◌, ◌++◌, Some, map, reverse, vec_len, vec_capacity}
 use Rattle.log_sources.specs.Sources.{is_opened, refusal_of}
-use Rattle.write_commands.specs.Jobs.{opens_of, sources_of}
-use Rattle.write_commands.specs.Naming.{AreNumbered}
+use Rattle.file_outcomes.specs.Jobs.{opens_of, sources_of}
+use Rattle.file_outcomes.specs.Naming.{AreNumbered}
 use Rattle.write_commands.proofs.ingest.begin_jobs.Given as goal
 
 abbrev pub invariant-loop-source : goal.invariant-loop-source

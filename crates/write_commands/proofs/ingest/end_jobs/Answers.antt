@@ -4,8 +4,8 @@ use Rattle.std.specs.Borrow.{Bor}
 use Rattle.std.proofs.lemmas.List.{get_or_default}
 use Rattle.ingest_workers.specs.declared.outcome.Outcome.{Outcome}
 use Rattle.log_sources.specs.Sources.{str_bytes}
-use Rattle.write_commands.specs.Jobs.{IsToldBy, refusal_by}
-use Rattle.write_commands.specs.declared.file_report.FileReport.{FileReport}
+use Rattle.file_outcomes.specs.Jobs.{IsToldBy, refusal_by}
+use Rattle.file_outcomes.specs.declared.file_report.FileReport.{FileReport}
 use Rattle.write_commands.proofs.JobLemmas.{named_next}
 use Rattle.write_commands.proofs.PopLemmas.{each_next, left_next, next_of, popped_next, popped_of, read_place}
 use Rattle.write_commands.proofs.ingest.end_jobs.Goals as goal

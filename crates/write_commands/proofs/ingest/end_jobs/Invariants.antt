@@ -2,8 +2,8 @@ use Rattle.std.proofs.Common.{◌≡◌, ◌+◌, ◌++◌, ℕ, Some, drop, len
 use Rattle.std.specs.Prelude.{slice_get}
 use Rattle.log_sources.specs.Sources.{str_bytes}
 use Rattle.write_commands.specs.IngestPrints.{names_of}
-use Rattle.write_commands.specs.Jobs.{IsToldBy, sources_of}
-use Rattle.write_commands.specs.declared.file_report.FileReport.{FileReport}
+use Rattle.file_outcomes.specs.Jobs.{IsToldBy, sources_of}
+use Rattle.file_outcomes.specs.declared.file_report.FileReport.{FileReport}
 use Rattle.write_commands.proofs.ingest.end_jobs.Given as goal
 
 abbrev pub invariant-loop-job : goal.invariant-loop-job

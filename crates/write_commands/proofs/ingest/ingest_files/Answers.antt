@@ -4,18 +4,18 @@ use Rattle.log_sources.specs.Sources.{str_bytes}
 use Rattle.write_commands.specs.IngestPrints.{came_of, names_of}
 use Rattle.command_answers.specs.Ingested.{FromArchive, TakesIn, TellsDamage}
 use Rattle.command_answers.specs.Known.{are_of, over}
-use Rattle.write_commands.specs.StepsKnown.{told_lawful}
-use Rattle.write_commands.specs.StepsCauses.{HaveFileCauses, logs_around}
+use Rattle.file_outcomes.specs.StepsKnown.{told_lawful}
+use Rattle.file_outcomes.specs.StepsCauses.{HaveFileCauses, logs_around}
 use Rattle.command_refusals.specs.Reading.{OverJournal}
 use Rattle.command_refusals.specs.declared.outcome.AddRefusal.TheVariants.{OutOfMemory}
-use Rattle.write_commands.specs.declared.file_report.FileReport.{FileReport}
+use Rattle.file_outcomes.specs.declared.file_report.FileReport.{FileReport}
 use Rattle.write_commands.proofs.CameLemmas.{printed_all, printed_short, printed_some, refused_all}
 use Rattle.write_commands.proofs.CauseLemmas.{names_cause}
-use Rattle.write_commands.proofs.KnownLemmas.{tells_alike}
-use Rattle.write_commands.proofs.LentLemmas.{names_damage}
+use Rattle.file_outcomes.proofs.KnownLemmas.{tells_alike}
+use Rattle.write_commands.proofs.DamageLemmas.{names_damage}
 use Rattle.write_commands.proofs.NameLemmas.{none_refused, one_refusal}
 use Rattle.command_refusals.proofs.GoingLemmas.{KeepsBytes-same}
-use Rattle.write_commands.proofs.StepsLemmas.{same_nothing}
+use Rattle.file_outcomes.proofs.StepsLemmas.{same_nothing}
 use Rattle.write_commands.proofs.ingest.ingest_files.Goals as goal
 
 pub returns-in-Some-clause-answers : goal.returns-in-Some-clause-answers

@@ -3,8 +3,8 @@ use Rattle.std.specs.Borrow.{Bor}
 use Rattle.std.proofs.lemmas.List.{get_or_default}
 use Rattle.std.proofs.lemmas.List.Elements.{All-push}
 use Rattle.log_sources.specs.Sources.{str_bytes}
-use Rattle.write_commands.specs.Jobs.{IsNotBegun}
-use Rattle.write_commands.specs.declared.file_report.FileReport.{FileReport}
+use Rattle.file_outcomes.specs.Jobs.{IsNotBegun}
+use Rattle.file_outcomes.specs.declared.file_report.FileReport.{FileReport}
 use Rattle.write_commands.proofs.JobLemmas.{named_next}
 use Rattle.write_commands.proofs.ingest.refuse_all.Goals as goal
 

@@ -1,7 +1,7 @@
 use Rattle.std.proofs.Common.{◌≡◌, All, length, map, take, vec_len, vec_capacity}
 use Rattle.log_sources.specs.Sources.{str_bytes}
 use Rattle.write_commands.specs.IngestPrints.{names_of}
-use Rattle.write_commands.specs.Jobs.{IsNotBegun}
+use Rattle.file_outcomes.specs.Jobs.{IsNotBegun}
 use Rattle.write_commands.proofs.ingest.refuse_all.Given as goal
 
 abbrev pub invariant-loop-name : goal.invariant-loop-name

@@ -3,10 +3,10 @@ use Rattle.std.proofs.lemmas.List.{length-map}
 use Rattle.log_sources.specs.Sources.{refusal_of, str_bytes}
 use Rattle.disk_journal.specs.Journal.{state_of}
 use Rattle.write_commands.specs.IngestPrints.{came_of}
-use Rattle.write_commands.specs.Jobs.{IsToldBy, opens_of, sources_of}
-use Rattle.write_commands.specs.StepsCauses.{into_journal, logs_around}
-use Rattle.write_commands.specs.Naming.{AreNumbered}
-use Rattle.write_commands.specs.declared.file_report.FileReport.{FileReport}
+use Rattle.file_outcomes.specs.Jobs.{IsToldBy, opens_of, sources_of}
+use Rattle.file_outcomes.specs.StepsCauses.{into_journal, logs_around}
+use Rattle.file_outcomes.specs.Naming.{AreNumbered}
+use Rattle.file_outcomes.specs.declared.file_report.FileReport.{FileReport}
 use Rattle.ingest_workers.specs.declared.job.Job.{Job}
 use Rattle.write_commands.proofs.FollowLemmas.{rests_same}
 use Rattle.write_commands.proofs.JobLemmas.{are_new, as_many, as_many_done, did_go_on}

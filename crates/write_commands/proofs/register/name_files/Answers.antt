@@ -6,12 +6,12 @@ use Rattle.disk_journal.specs.Journal.{state_of}
 use Rattle.disk_journal.specs.Place.{BeforeOrAfter}
 use Rattle.ingest_meaning.specs.Room.{files_record}
 use Rattle.log_sources.specs.Sources.{str_bytes}
-use Rattle.write_commands.specs.StepsKnown.{IsNoDamage}
-use Rattle.write_commands.proofs.AppendLemmas.{is_named, may_add, names_more}
+use Rattle.file_outcomes.specs.StepsKnown.{IsNoDamage}
+use Rattle.file_outcomes.proofs.AppendLemmas.{is_named, may_add, names_more}
 use Rattle.write_commands.proofs.CauseLemmas.{many_cause, refused_with, register_cause, register_undamaged, undamaged_with}
 use Rattle.file_lines.proofs.DirectoryLemmas.{on_err}
 use Rattle.write_commands.proofs.RegisterLemmas.{ended_alone, from_named, not_named}
-use Rattle.write_commands.proofs.StepsLemmas.{same_nothing}
+use Rattle.file_outcomes.proofs.StepsLemmas.{same_nothing}
 use Rattle.command_refusals.proofs.GoingLemmas.{DiskGoesOn-left, DiskGoesOn-same}
 use Rattle.write_commands.proofs.register.name_files.Goals as goal
 

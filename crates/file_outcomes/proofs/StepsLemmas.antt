@@ -11,10 +11,10 @@ use Rattle.archive_meaning.specs.declared.entry.JournalEntry.TheVariants.{Files}
 use Rattle.archive_meaning.specs.Stands.{StandsFor}
 use Rattle.command_refusals.specs.GoesOn.{DiskGoesOn}
 use Rattle.command_answers.specs.Ingested.{FileOutcome, FromArchive, TakesIn, TakesNothing}
-use Rattle.write_commands.specs.JournalLeft.{AddsNamesTo, StandsBetween, StandsStill, TakesInto}
+use Rattle.file_outcomes.specs.JournalLeft.{AddsNamesTo, StandsBetween, StandsStill, TakesInto}
 use Rattle.command_refusals.specs.Reading.{OverJournal}
 use Rattle.command_refusals.proofs.GoingLemmas.{KeepsBytes-same}
-use Rattle.write_commands.proofs.LeavesLemmas.{begun_sooner, from_archive, keeps_still, prefix_same, still_between, still_leaves}
+use Rattle.file_outcomes.proofs.LeavesLemmas.{begun_sooner, from_archive, keeps_still, prefix_same, still_between, still_leaves}
 
 -- The bytes were looked at, and the header was read.
 pub record Looked (old mid new : DiskState) : Type 0 where

@@ -5,8 +5,8 @@
 //! are made over this disk, which tells its bytes only where the premise holds.
 ghost use Rattle.std.specs.Prelude.{◌≡◌, ℕ, Bool, false, is_some, Option, None};
 ghost use Rattle.command_answers.specs.Known.{KnownArchive, told_if};
-ghost use Rattle.write_commands.specs.JournalAt.{AreParts};
-ghost use Rattle.write_commands.specs.StepsKnown.{told_lawful};
+ghost use Rattle.file_outcomes.specs.JournalAt.{AreParts};
+ghost use Rattle.file_outcomes.specs.StepsKnown.{told_lawful};
 
 use crate::journal_end::JournalEnd;
 use disk_journal::Journal;

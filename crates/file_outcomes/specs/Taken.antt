@@ -1,7 +1,7 @@
 -- What came of the files that were to be taken into an archive, as it is printed.
 use Rattle.std.specs.Prelude.{ℕ, List, [], ◌∷◌, map}
 use Rattle.file_lines.specs.Directory.{FileLine}
-use Rattle.write_commands.specs.declared.file_report.FileReport.{FileReport}
+use Rattle.file_outcomes.specs.declared.file_report.FileReport.{FileReport}
 use Rattle.command_answers.specs.Taken.{file_error, file_status, gravest}
 
 abbrev pub line_of_taken : FileReport → FileLine

@@ -1,9 +1,9 @@
 use Rattle.std.proofs.Common.{◌≡◌, ◌≤◌, map, take}
 use Rattle.std.specs.List.{flat_map}
 use Rattle.command_refusals.specs.Refusal.{Says}
-use Rattle.write_commands.specs.Taken.{error_of}
+use Rattle.file_outcomes.specs.Taken.{error_of}
 use Rattle.command_answers.specs.Taken.{file_status, gravest}
-use Rattle.write_commands.proofs.file_report.report_taken.Given as goal
+use Rattle.file_outcomes.proofs.file_report.report_taken.Given as goal
 
 abbrev pub invariant-loop-file : goal.invariant-loop-file
 invariant-loop-file g l = record {

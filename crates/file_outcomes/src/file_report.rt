@@ -2,8 +2,8 @@
 ghost use Rattle.std.specs.Prelude.{◌≡◌, ◌≤◌};
 ghost use Rattle.std.specs.List.{flat_map};
 ghost use Rattle.command_refusals.specs.Refusal.{Says};
-ghost use Rattle.write_commands.specs.Jobs.{of_cause};
-ghost use Rattle.write_commands.specs.Taken.{error_of, graver, line_of_taken, status_of_taken};
+ghost use Rattle.file_outcomes.specs.Jobs.{of_cause};
+ghost use Rattle.file_outcomes.specs.Taken.{error_of, graver, line_of_taken, status_of_taken};
 ghost use Rattle.command_answers.specs.Taken.{file_status};
 
 use command_refusals::{PartCause, refusal_of_part, report_file};

@@ -29,7 +29,7 @@ use Rattle.disk_seal.specs.View.{HasFirst, Image, Kept, StoreState, StoreView, j
 use Rattle.disk_seal.proofs.ToldLemmas.{length-records}
 use Rattle.ingest_workers.specs.Ingested.{IsAsItWas, IsLeftBy, told_entries}
 use Rattle.command_answers.specs.Ingested.{FromArchive, LeavesJournal, StandsForEither}
-use Rattle.write_commands.specs.JournalLeft.{HasNames, StandsBetween, StandsStill}
+use Rattle.file_outcomes.specs.JournalLeft.{HasNames, StandsBetween, StandsStill}
 
 -- ---- fronts of lists
 

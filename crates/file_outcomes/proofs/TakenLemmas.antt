@@ -6,7 +6,7 @@ use Rattle.std.proofs.lemmas.List.Concat.{flat_map-append}
 use Rattle.std.proofs.lemmas.List.{append-nil}
 use Rattle.command_refusals.specs.Refusal.{Says}
 use Rattle.command_answers.specs.Taken.{gravest, has}
-use Rattle.write_commands.specs.Taken.{graver}
+use Rattle.file_outcomes.specs.Taken.{graver}
 use Rattle.command_refusals.proofs.RefusalLemmas.{Says-joined, Says-same}
 
 take_next : {A : Type 0} (xs : List A) (i : ℕ) (d : A) → i < length xs → take (i + 1) xs ≡ take i xs ++ get_or xs i d ∷ []

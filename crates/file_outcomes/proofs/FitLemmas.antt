@@ -28,9 +28,9 @@ use Rattle.ingest_workers.specs.Worker.{IsGiven as IsGivenByJobs}
 use Rattle.ingest_workers.proofs.NoRoomLemmas.{no_room_on}
 use Rattle.ingest_workers.proofs.SealLemmas.{if_told, of_told}
 use Rattle.command_answers.specs.Ingested.{FileOutcome, DidNotFit, HasEnded, IsGiven, LeavesJournal, Logs, StandFirst, WereGiven, names_in}
-use Rattle.write_commands.specs.StepsCauses.{IsTarget, Target}
-use Rattle.write_commands.proofs.ContentLemmas.{AreJobsOf, given_of_names}
-use Rattle.write_commands.proofs.LeavesLemmas.{prefix_on, store_leaves}
+use Rattle.file_outcomes.specs.StepsCauses.{IsTarget, Target}
+use Rattle.file_outcomes.proofs.ContentLemmas.{AreJobsOf, given_of_names}
+use Rattle.file_outcomes.proofs.LeavesLemmas.{prefix_on, store_leaves}
 
 abbrev Texts : Type 0
 Texts = List (List ℕ)

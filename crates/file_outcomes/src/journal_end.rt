@@ -1,7 +1,7 @@
 //! A journal that is to be gone on with, over a disk that is lent anew.
 ghost use Rattle.std.specs.Prelude.{◌-◌, ◌^◌, ◌<◌, ◌≤◌, IsTrue};
 
-use crate::register::Holding;
+use crate::holding::Holding;
 use record_format::Header;
 
 /// Where a journal has come to, without its disk.

@@ -1,5 +1,5 @@
--- The adding of logs to an archive that was opened, from the start of the call on.
-use Rattle.std.proofs.Common.{◌≡◌, ◌≤◌, arith, subst, sym, ℕ, List, length, map, Option, Some, None}
+-- The opening of an archive that is to be added to, from the start of the call on.
+use Rattle.std.proofs.Common.{◌≡◌, ◌≤◌, arith, subst, sym, ℕ, List, Option, Some, None}
 use Rattle.log_seams.specs.Disk.{DiskState, IsLawful, IsSynced, KeepsBytes, Only, Rests}
 use Rattle.log_seams.proofs.MomentLemmas.{keeps_on}
 use Rattle.record_format.specs.Header.{header_bytes}
@@ -7,18 +7,9 @@ use Rattle.disk_journal.specs.Place.{AtEnd}
 use Rattle.disk_journal.specs.State.{JournalState}
 use Rattle.disk_seal.specs.Opening.{MayOpen}
 use Rattle.command_refusals.specs.GoesOn.{DiskGoesOn}
-use Rattle.command_refusals.specs.Reading.{OverJournal}
-use Rattle.command_refusals.specs.declared.outcome.AddRefusal.{AddRefusal}
-use Rattle.command_answers.specs.Ingested.{FromArchive, Logs, TakesIn, TakesNothing}
-use Rattle.write_commands.specs.declared.file_report.FileReport.{FileReport}
-use Rattle.write_commands.specs.declared.ingest.NewLogs.{NewLogs}
-use Rattle.write_commands.specs.IngestPrints.{came_of}
-use Rattle.write_commands.specs.StepsAdding.{AddsNewLogs, RefusesNewLogs, names_asked}
+use Rattle.command_answers.specs.Ingested.{FromArchive, TakesNothing}
 use Rattle.command_refusals.proofs.GoingLemmas.{DiskGoesOn-joined, DiskGoesOn-seen, KeepsBytes-same}
-use Rattle.write_commands.proofs.CauseLemmas.{cause_sooner}
-use Rattle.write_commands.proofs.LeavesLemmas.{from_archive}
-use Rattle.write_commands.proofs.StepsLemmas.{Looked, looked_nothing, no_more, nothing_sooner, same_bytes, takes_looked}
-use Rattle.write_commands.proofs.WholeLemmas.{causes_looked}
+use Rattle.file_outcomes.proofs.StepsLemmas.{Looked, looked_nothing, no_more}
 
 -- a journal at its end was synced
 pub held_synced : (j : JournalState) → MayOpen j → IsSynced j.disk
@@ -81,22 +72,3 @@ module _ {old mid late : DiskState} (once : OpenedOnce old mid late) where
 
   pub once_nothing : FromArchive old (λ h before bytes stood. TakesNothing h before old late)
   once_nothing = looked_nothing old mid late once.looked
-
-module _ (old mid late : DiskState) (looked : Looked old mid late) (new : DiskState) (goes : DiskGoesOn late new) (asked : NewLogs) where
-  -- the logs were added
-  pub adds_looked : (content : List ℕ → Option (List ℕ)) (logs : Logs) (first : ℕ) (reports : List FileReport) → AddsNewLogs content logs asked first reports late new → AddsNewLogs content logs asked first reports old new
-  adds_looked content logs first reports adds = record {
-    names = adds.names;
-    number = subst (λ told. OverJournal told (λ journal. first ≡ length journal.names)) (same_bytes old mid late looked) adds.number;
-    taken = from_archive old late (λ h before bytes stood. TakesIn asked.segment h before stood (names_asked asked) (map (came_of content) reports) late new) (λ h before bytes stood. TakesIn asked.segment h before stood (names_asked asked) (map (came_of content) reports) old new)
-        (same_bytes old mid late looked) (no_more old mid late looked)
-        (λ h before bytes stood only takes. (takes_looked old mid late looked new goes h before bytes stood only (names_asked asked) (map (came_of content) reports) takes).0) adds.taken;
-    causes = causes_looked old mid late looked logs asked.workers asked.segment new (map (came_of content) reports) adds.causes;
-  }
-
-  -- or they were not
-  pub refuses_looked : (refusal : AddRefusal) → RefusesNewLogs asked late new refusal → RefusesNewLogs asked old new refusal
-  refuses_looked refusal refuses = record {
-    cause = cause_sooner (names_asked asked) old mid late new looked refusal refuses.cause;
-    nothing = nothing_sooner old mid late looked new goes refuses.nothing;
-  }

@@ -17,7 +17,7 @@ use Rattle.archive_meaning.proofs.SumsLemmas.{messages_joined, whole_joined}
 use Rattle.ingest_workers.specs.Journal.{FrontHolds}
 use Rattle.ingest_meaning.specs.Parts.{in_file}
 use Rattle.ingest_meaning.specs.Parts.{IsCut, IsOpen, Part, messages_in, rest_of, segments_from}
-use Rattle.write_commands.proofs.JoinLemmas.{AreFrom, HasNone, ended_joined}
+use Rattle.file_outcomes.proofs.JoinLemmas.{AreFrom, HasNone, ended_joined}
 
 -- texts, and segments of files from a number on
 abbrev pub IsNewFrom : ℕ → JournalEntry → Type 0

@@ -8,7 +8,7 @@ use Rattle.ingest_workers.specs.declared.outcome.Cause.{Cause}
 use Rattle.ingest_workers.specs.InTurn.{AreFullInTurn}
 use Rattle.ingest_workers.specs.Ingested.{AreRefused, HasIngested, HaveCauses, IsAsItWas, plan_of}
 use Rattle.command_refusals.specs.declared.outcome.PartCause.{PartCause}
-use Rattle.write_commands.specs.declared.file_report.FileReport.{FileReport}
+use Rattle.file_outcomes.specs.declared.file_report.FileReport.{FileReport}
 
 -- why a log was not opened, and why not all of it was taken in
 abbrev pub of_opening : OpenRefused → PartCause

@@ -34,10 +34,10 @@ use Rattle.ingest_meaning.specs.Parts.{in_file}
 use Rattle.ingest_meaning.specs.Parts.{IsCut, IsOpen, Part, columns_of, front, messages_in, rest_of, segments_from}
 use Rattle.ingest_workers.specs.Worker.{IsGiven as IsGivenByJobs}
 use Rattle.command_answers.specs.Ingested.{FileOutcome, IsCutInto, IsFront, IsGiven, IsGivenBy, IsOfNew, LeavesJournal, TakesIn}
-use Rattle.write_commands.specs.JournalLeft.{HasNames, HasTakenIn, IsLogOf}
-use Rattle.write_commands.proofs.JoinLemmas.{HasNone, content_grows, new_file, with_names}
-use Rattle.write_commands.proofs.LeavesLemmas.{left_entries, left_leaves, of_told, same_leaves, stayed_entries}
-use Rattle.write_commands.proofs.PieceLemmas.{HasGrown, HoldsOf, IsNewFrom, grown, one_file}
+use Rattle.file_outcomes.specs.JournalLeft.{HasNames, HasTakenIn, IsLogOf}
+use Rattle.file_outcomes.proofs.JoinLemmas.{HasNone, content_grows, new_file, with_names}
+use Rattle.file_outcomes.proofs.LeavesLemmas.{left_entries, left_leaves, of_told, same_leaves, stayed_entries}
+use Rattle.file_outcomes.proofs.PieceLemmas.{HasGrown, HoldsOf, IsNewFrom, grown, one_file}
 
 -- ---- one new file
 

@@ -1,8 +1,8 @@
 use Rattle.std.proofs.Common.{arith}
-use Rattle.write_commands.specs.Taken.{error_of}
+use Rattle.file_outcomes.specs.Taken.{error_of}
 use Rattle.command_answers.specs.Taken.{file_status}
-use Rattle.write_commands.proofs.TakenLemmas.{gravest_next, said_next}
-use Rattle.write_commands.proofs.file_report.report_taken.Goals as goal
+use Rattle.file_outcomes.proofs.TakenLemmas.{gravest_next, said_next}
+use Rattle.file_outcomes.proofs.file_report.report_taken.Goals as goal
 
 pub loop-file-preserved : goal.loop-file-preserved
 loop-file-preserved g c =

@@ -4,7 +4,7 @@ use Rattle.log_seams.specs.declared.disk.Disk.{Ghosts as DiskGhosts}
 use Rattle.log_seams.specs.Disk.{DiskState}
 use Rattle.disk_journal.specs.State.{JournalState}
 use Rattle.disk_journal.specs.declared.journal.Journal.{Journal}
-use Rattle.write_commands.specs.declared.journal_end.JournalEnd.{JournalEnd}
+use Rattle.file_outcomes.specs.declared.journal_end.JournalEnd.{JournalEnd}
 
 -- the journal that has come to this, over a disk that is lent under this name
 abbrev pub state_at : ℕ → DiskState → JournalEnd → JournalState

@@ -42,7 +42,7 @@ use Rattle.ingest_workers.proofs.ClosingLemmas.{types_joined, words_joined}
 use Rattle.ingest_workers.proofs.JournalLemmas.{all_canonical}
 use Rattle.ingest_workers.specs.Ingested.{OfMessages}
 use Rattle.command_answers.specs.Ingested.{AllFit, FileOutcome, FitIn, FromArchive, IsFront, IsThereOrTakenIn, StandsForEither, TakesIn, WasTakenIn}
-use Rattle.write_commands.proofs.JoinLemmas.{types_held, words_held}
+use Rattle.file_outcomes.proofs.JoinLemmas.{types_held, words_held}
 
 abbrev Texts : Type 0
 Texts = List (List ℕ)

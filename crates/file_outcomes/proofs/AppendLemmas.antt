@@ -34,9 +34,9 @@ use Rattle.disk_seal.proofs.ToldLemmas.{told_both, told_map}
 use Rattle.ingest_workers.specs.Ingested.{told_entries}
 use Rattle.ingest_workers.specs.Journal.{Holds}
 use Rattle.command_answers.specs.Names.{RefusesMore, RefusesNames}
-use Rattle.write_commands.specs.Naming.{HasNamesMore, IsHeldBy, IsNamed}
+use Rattle.file_outcomes.specs.Naming.{HasNamesMore, IsHeldBy, IsNamed}
 use Rattle.command_refusals.specs.Reading.{IsArchive}
-use Rattle.write_commands.proofs.JoinLemmas.{new_file, types_held, types_named, words_held, words_named}
+use Rattle.file_outcomes.proofs.JoinLemmas.{new_file, types_held, types_named, words_held, words_named}
 
 -- ---- the names
 

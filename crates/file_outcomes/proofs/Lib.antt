@@ -1,0 +1,13 @@
+pub mod AppendLemmas
+pub mod ContentLemmas
+pub mod FitLemmas
+pub mod FittingLemmas
+pub mod HeldLemmas
+pub mod JoinLemmas
+pub mod KnownLemmas
+pub mod LeavesLemmas
+pub mod LentLemmas
+pub mod PieceLemmas
+pub mod RefusalLemmas
+pub mod StepsLemmas
+pub mod TakenLemmas
