@@ -15,9 +15,7 @@ ghost use Rattle.command_answers.specs.Searching.{SparesBarren};
 use crate::text::{group_by, text_of};
 use archive_places::open_places;
 use column_store::Range;
-use command_refusals::{
-    ReadRefusal, answer, refusal_of_pattern, refusal_of_read, report,
-};
+use command_refusals::{ReadRefusal, answer, refusal_of_pattern, refusal_of_read, report};
 use command_words::CountWords;
 use group_count::{GroupBy, Grouped, group};
 use log_seams::{Disk, Sink};

@@ -14,9 +14,7 @@ ghost use Rattle.command_answers.specs.Searching.{PrintsFound, SparesBarren, fou
 
 use archive_places::open_places;
 use column_store::Range;
-use command_refusals::{
-    ReadRefusal, answer, refusal_of_pattern, refusal_of_read, report,
-};
+use command_refusals::{ReadRefusal, answer, refusal_of_pattern, refusal_of_read, report};
 use command_words::SearchWords;
 use log_seams::{Disk, Sink};
 use query_plan::wide_is_wider;

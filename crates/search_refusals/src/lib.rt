@@ -1,5 +1,6 @@
 //! Which refusal of a command that reads an archive the refusal of a search is.
 #![tactic(auto)]
+
 ghost use Rattle.std.specs.Prelude.{◌≡◌};
 ghost use Rattle.search_refusals.specs.Outcome.{from_search};
 
