@@ -1,4 +1,6 @@
 //! Words that stay on the disk, found by a pass and held, over a disk that fails and changed bytes.
+ghost use Rattle.std.specs.Prelude.{◌≡◌};
+ghost use Rattle.word_places.specs.Held.{places_of};
 
 use crate::archive::{ARCHIVE, changed, disk};
 use column_store::RowRef;
@@ -358,6 +360,90 @@ fn what_is_not_there_is_not_held(rt: HostRuntime) -> Result<(), Fail> {
 #[test]
 fn a_read_that_fails_holds_nothing(rt: HostRuntime) {
     assert!(rt; unheld(rt.alloc(), &ARCHIVE, &[0]) == Ok(Some(HoldRefusal::DiskFault)));
+}
+
+// ---- shares
+
+// Reads the record of a word into a share.
+fn read_on(share: &mut HeldWords, disk: &mut MemDisk, number: u32) -> Result<(), HoldRefusal>
+    ensures { places_of share.new.records ≡ places_of share.old.records }
+{
+    share.hold(disk, number)
+}
+
+// Whether all words are there.
+fn has_each(held: &HeldWords) -> bool {
+    lends(held, &[b"alpha", b"be", b"ab", b"alphabet", b""])
+}
+
+// Whether all words are held after so many reads.
+fn holds_each(held: &mut HeldWords, disk: &mut MemDisk, reads: usize) -> Result<bool, HoldRefusal> {
+    held.hold(disk, 0)?;
+    held.hold(disk, 3)?;
+    Ok(has_each(held) && disk.calls() == reads)
+}
+
+// Whether a share has what was read before, reads for itself alone, and is taken in again.
+fn shares(held: &mut HeldWords, disk: &mut MemDisk) -> Result<bool, HoldRefusal> {
+    held.hold(disk, 3)?;
+    let mut share = held.share()?;
+    read_on(&mut share, disk, 0)?;
+    let apart = has_second(held) && has_each(&share);
+    held.take_in(share);
+    let all = holds_each(held, disk, 2)?;
+    Ok(apart && all)
+}
+
+fn shares_of(alloc: Global) -> Result<bool, HoldRefusal> {
+    let mut held = held(alloc)?;
+    shares(&mut held, &mut disk(alloc, &ARCHIVE, &[])?)
+}
+
+#[test]
+fn a_share_reads_on_and_is_taken_in(rt: HostRuntime) {
+    assert!(rt; shares_of(rt.alloc()) == Ok(true));
+}
+
+// The same of a share of a share.
+fn shares_twice(held: &mut HeldWords, disk: &mut MemDisk) -> Result<bool, HoldRefusal> {
+    let mut share = held.share()?;
+    read_on(&mut share, disk, 3)?;
+    let mut second = share.share()?;
+    read_on(&mut second, disk, 0)?;
+    share.take_in(second);
+    held.take_in(share);
+    holds_each(held, disk, 2)
+}
+
+fn shares_twice_of(alloc: Global) -> Result<bool, HoldRefusal> {
+    let mut held = held(alloc)?;
+    shares_twice(&mut held, &mut disk(alloc, &ARCHIVE, &[])?)
+}
+
+#[test]
+fn so_is_a_share_of_a_share(rt: HostRuntime) {
+    assert!(rt; shares_twice_of(rt.alloc()) == Ok(true));
+}
+
+// Two shares that read the same record, each for itself.
+fn shares_beside(held: &mut HeldWords, disk: &mut MemDisk) -> Result<bool, HoldRefusal> {
+    let mut first = held.share()?;
+    let mut second = held.share()?;
+    read_on(&mut first, disk, 3)?;
+    read_on(&mut second, disk, 3)?;
+    held.take_in(first);
+    held.take_in(second);
+    holds_each(held, disk, 3)
+}
+
+fn shares_beside_of(alloc: Global) -> Result<bool, HoldRefusal> {
+    let mut held = held(alloc)?;
+    shares_beside(&mut held, &mut disk(alloc, &ARCHIVE, &[])?)
+}
+
+#[test]
+fn what_two_shares_read_is_kept_once(rt: HostRuntime) {
+    assert!(rt; shares_beside_of(rt.alloc()) == Ok(true));
 }
 
 #[test]

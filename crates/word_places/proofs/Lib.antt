@@ -6,3 +6,4 @@ pub mod HolderLemmas
 pub mod ReadLemmas
 pub mod SlotLemmas
 pub mod FoundLemmas
+pub mod SharedLemmas

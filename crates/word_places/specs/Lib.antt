@@ -1,6 +1,7 @@
 pub mod Places
 pub mod Record
 pub mod Held
+pub mod Shared
 pub mod Holders
 pub mod Local
 pub mod Reads

@@ -1,21 +1,23 @@
 //! The words of an archive, of which some records are held in memory.
-ghost use Rattle.std.specs.Prelude.{◌≡◌, IsTrue, length, map, IfOk};
+ghost use Rattle.std.specs.Prelude.{◌≡◌, [], false, IsTrue, length, map, slice_index_or, IfOk};
 ghost use Rattle.column_store.specs.Row.{row_of};
-ghost use Rattle.row_codec.specs.Numbers.{numbers_of_row};
+ghost use Rattle.row_codec.specs.Numbers.{kinds_from, numbers_of_row};
 ghost use Rattle.word_places.specs.Held.{AreHeld, AreNumbered, HeldNames, unread};
 ghost use Rattle.word_places.specs.Places.{AreInOrder};
+ghost use Rattle.word_places.specs.StepsHeld.{HaveSlots};
 
 use crate::gaps::{are_held, are_slots_held};
 use crate::hints::hints_of;
 use crate::lending::{number_in, text_in};
 use crate::place::WordsPlace;
-use crate::record::RecordWords;
+use crate::sharing::SharedWords;
 use crate::type_slots::{slots_at, slots_of};
 use column_store::RowRef;
 use dict_core::Texts;
 use row_codec::Names;
 use std::alloc::{AllocError, Global};
 use std::marker::Model;
+use std::sync::Arc;
 
 /// The first version whose moments count microseconds.
 const MICRO_VERSION: u32 = 3;
@@ -25,10 +27,32 @@ const MICRO_VERSION: u32 = 3;
 const SLOT_TYPES: u32 = 1024;
 
 /// A record of words: where it stands, and its words, once they are read.
-#[derive(Debug, Drop)]
+#[derive(Drop)]
 pub struct HeldRecord {
     pub(crate) place: WordsPlace,
-    pub(crate) words: Option<RecordWords>,
+    pub(crate) words: Option<SharedWords>,
+}
+
+/// What all shares of the words have: it does not change.
+#[derive(Drop)]
+pub(crate) struct Common {
+    types: Texts,
+    /// Of each of the first log types the bytes that stand for its slots.
+    slots: Texts,
+    /// Where the record of a number is looked for first.
+    hints: Vec<u32>,
+}
+
+impl Common {
+    /// What tells the slots of a log type.
+    #[inline]
+    pub(crate) fn slots_at(&self, log_type: u32) -> &[u8]
+        requires { HaveSlots self.now.types self.now.slots }
+        ensures { kinds_from false result.now
+            ≡ kinds_from false (slice_index_or self.now.types log_type []) }
+    {
+        slots_at(&self.slots, &self.types, log_type)
+    }
 }
 
 /// The log types of an archive, and its words as far as their records were read. As [`Names`] it has an
@@ -36,15 +60,11 @@ pub struct HeldRecord {
 #[derive(Drop)]
 pub struct HeldWords {
     pub(crate) alloc: Global,
-    pub(crate) types: Texts,
-    /// Of each of the first log types the bytes that stand for its slots.
-    pub(crate) slots: Texts,
+    pub(crate) common: Arc<Common>,
     pub(crate) version: u32,
     pub(crate) records: Vec<HeldRecord>,
     /// How many records at the front are known to be read. It goes on after each read.
     pub(crate) front: usize,
-    /// Where the record of a number is looked for first.
-    pub(crate) hints: Vec<u32>,
 }
 
 impl Model for HeldWords {
@@ -53,10 +73,14 @@ impl Model for HeldWords {
 
     ghost Value = { HeldNames };
 
-    ghost view = { λ h. record { types = h.types; version = h.version; records = h.records.items } };
+    ghost view = { λ h. record {
+      types = h.common.value.types;
+      version = h.version;
+      records = h.records.items;
+    } };
 
     ghost invariant = { λ h. AreNumbered 0 h.records.items × AreReadTo h.front h.records.items
-        × HaveSlots h.types h.slots };
+        × HaveSlots h.common.value.types h.common.value.slots };
 }
 
 impl HeldWords {
@@ -75,6 +99,14 @@ impl HeldWords {
     {
         let hints = hints_of(alloc, places)?;
         let slots = slots_of(alloc, &types, SLOT_TYPES)?;
+        let common = Arc::new(
+            alloc,
+            Common {
+                types,
+                slots,
+                hints,
+            },
+        )?;
         let mut records = Vec::with_capacity(alloc, places.len())?;
         for place in places {
             records.push_reserved(HeldRecord {
@@ -84,12 +116,10 @@ impl HeldWords {
         }
         Ok(HeldWords {
             alloc,
-            types,
-            slots,
+            common,
             version,
             records,
             front: 0,
-            hints,
         })
     }
 
@@ -110,11 +140,11 @@ impl HeldWords {
         ensures held { IsTrue result
             → AreHeld self.now.records (numbers_of_row self.now.types (row_of row.entry)) }
     {
-        let (records, hints) = (self.records.as_slice(), self.hints.as_slice());
+        let (records, hints) = (self.records.as_slice(), self.common.hints.as_slice());
         if are_held(records, hints, self.front, row.words) {
             return true;
         }
-        let slots = slots_at(&self.slots, &self.types, row.log_type);
+        let slots = self.common.slots_at(row.log_type);
         are_slots_held(records, hints, self.front, slots, row.words)
     }
 }
@@ -133,11 +163,15 @@ impl Names for HeldWords {
     }
 
     fn type_text(&self, number: u32) -> Option<&[u8]> {
-        self.types.text_of(number)
+        self.common.types.text_of(number)
     }
 
     fn word_text(&self, number: u32) -> Option<&[u8]> {
-        text_in(self.records.as_slice(), self.hints.as_slice(), number)
+        text_in(
+            self.records.as_slice(),
+            self.common.hints.as_slice(),
+            number,
+        )
     }
 
     fn word_number(&self, text: &[u8]) -> Option<u32> {

@@ -15,10 +15,9 @@ use crate::held::{HeldRecord, HeldWords};
 use crate::hints::record_near;
 use crate::order::{place_at, record_of};
 use crate::reading::read_record;
-use crate::record::RecordWords;
 use crate::refusal::HoldRefusal;
+use crate::sharing::SharedWords;
 use crate::slots::hold_slots;
-use crate::type_slots::slots_at;
 use column_store::RowRef;
 use log_seams::Disk;
 use std::alloc::Global;
@@ -80,7 +79,7 @@ impl HeldWords {
         ensures counts { CountsOf HoldRefusal.DiskFault
             (D.state disk.old).faults (D.state disk.new).faults result }
     {
-        let slots = slots_at(&self.slots, &self.types, row.log_type);
+        let slots = self.common.slots_at(row.log_type);
         let answer = hold_slots(self.alloc, &mut self.records, disk, slots, row.words);
         self.front = read_front(self.records.as_slice(), self.front);
         answer
@@ -151,8 +150,8 @@ pub(crate) fn is_held(records: &[HeldRecord], hints: &[u32], number: u32) -> boo
     }
 }
 
-// How many records at the front were read, where it is known of so many.
-fn read_front(records: &[HeldRecord], known: usize) -> usize
+/// How many records at the front were read, where it is known of so many.
+pub(crate) fn read_front(records: &[HeldRecord], known: usize) -> usize
     requires { AreReadTo known records.now }
     ensures { AreReadTo result records.now }
 {
@@ -173,7 +172,7 @@ fn is_read(records: &[HeldRecord], at: usize) -> bool
 }
 
 // Puts the words of a record that was not read.
-fn put(records: &mut Vec<HeldRecord>, at: usize, words: RecordWords)
+fn put(records: &mut Vec<HeldRecord>, at: usize, words: SharedWords)
     requires { at < length records.old.items }
     ensures { Puts records.old.items at words records.new.items }
 {

@@ -19,6 +19,7 @@ mod place;
 mod reading;
 mod record;
 mod refusal;
+mod sharing;
 mod slots;
 mod type_slots;
 
@@ -30,3 +31,4 @@ pub use pass::{add_holders, word_found};
 pub use place::WordsPlace;
 pub use record::RecordWords;
 pub use refusal::HoldRefusal;
+pub use sharing::SharedWords;

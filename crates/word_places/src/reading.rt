@@ -7,6 +7,7 @@ ghost use Rattle.word_places.specs.Places.{OfTexts, Spells, payload_in};
 use crate::place::WordsPlace;
 use crate::record::RecordWords;
 use crate::refusal::HoldRefusal;
+use crate::sharing::SharedWords;
 use log_seams::Disk;
 use std::alloc::Global;
 
@@ -65,7 +66,7 @@ pub(crate) fn read_record<D: Disk>(
     alloc: Global,
     disk: &mut D,
     place: WordsPlace,
-) -> Result<RecordWords, HoldRefusal>
+) -> Result<SharedWords, HoldRefusal>
     // what stays
     ensures rests { Rests (D.state disk.old) (D.state disk.new) }
     ensures reads { ReadsOnly place.payload place.length (D.state disk.old) (D.state disk.new) }
@@ -82,7 +83,7 @@ pub(crate) fn read_record<D: Disk>(
     let mut bytes = vec![in alloc; 0; place.length as usize]?;
     fill(disk, place, bytes.as_mut_slice())?;
     match RecordWords::read(alloc, place, bytes)? {
-        Some(words) => Ok(words),
+        Some(words) => Ok(SharedWords::new(alloc, words)?),
         None => Err(HoldRefusal::Damaged),
     }
 }
