@@ -15,7 +15,8 @@ use Rattle.archive_meaning.specs.Spelled.{front_of, record_of, records_from, typ
 use Rattle.archive_meaning.proofs.JudgeLemmas.{end_more}
 use Rattle.archive_meaning.proofs.UniqueLemmas.{front_joined, stands_begins}
 use Rattle.archive_open.specs.Shown.{Misses, ReadsAside, Spares, columns_begin, columns_end, head_in}
-use Rattle.archive_open.specs.StepsNext.{Built, IsOpening, ReadsOf, ReadsWithin, shown_len}
+use Rattle.archive_open.specs.StepsNext.{IsOpening}
+use Rattle.archive_open.specs.Walk.{Keeping, ReadsOf, ReadsWithin, shown_len}
 use Rattle.archive_open.proofs.NextLemmas.{front_length}
 use Rattle.archive_open.proofs.ReadLemmas.{Ranges, none_added, read_within, two_added}
 use Rattle.archive_open.proofs.WalkLemmas.{entry_at, goes_on, next_here}
@@ -116,7 +117,7 @@ ten_shown done (e ∷ rest) = omega arith
 
 -- ---- the reads of the walk
 
-module _ (b : Built) (header : Header) (place count : ℕ) (bytes : List ℕ) (o : IsOpening b header place count bytes) where
+module _ (b : Keeping) (header : Header) (place count : ℕ) (bytes : List ℕ) (o : IsOpening b header place count bytes) where
   pub gate_spared : (old new : DiskState) → ReadsOnly place 10 old new → Spares (Some bytes) old.ranges new.ranges
   gate_spared old new reads = λ h es stood.
       let at : place ≡ length (front_of h (take count es)) = o.stood h es (stands_begins bytes h es stood) (o.far h es stood) in

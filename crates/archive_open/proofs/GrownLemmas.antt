@@ -11,7 +11,8 @@ use Rattle.archive_open.specs.declared.segments.SegmentPlace.{SegmentPlace}
 use Rattle.archive_open.specs.Grown.{GrownView, Grows, GrowsNext, NoneGrows}
 use Rattle.archive_open.specs.Shown.{places_of}
 use Rattle.archive_open.specs.StepsFiles.{GoesOn, file_with, no_file}
-use Rattle.archive_open.specs.StepsNext.{Builds, BuildsNext, Built, HasHead, NoneNext}
+use Rattle.archive_open.specs.StepsNext.{Builds, BuildsNext, Built, HasHead}
+use Rattle.archive_open.specs.Walk.{NoneNext}
 use Rattle.archive_open.proofs.NextLemmas.{follows, no_entry, no_segment, places_more, segment_built}
 
 -- with places of segments beside
@@ -35,7 +36,7 @@ pub grows_next : (kind : ℕ) (payload : List ℕ) (old new : GrownView)
 grows_next kind payload old new builds at h es e next grows held run =
     let is = builds (places_of es) at h es e next (built_with old h es grows) held run in record { kept = is.kept; files = is.files }
 
-pub none_grows : (kind : ℕ) (payload : List ℕ) (old : GrownView) → ((segments : List SegmentPlace) (at : ℕ) → NoneNext at kind payload (with_segments old segments)) → NoneGrows kind payload old
+pub none_grows : (kind : ℕ) (payload : List ℕ) (old : GrownView) → ((segments : List SegmentPlace) (at : ℕ) → NoneNext at kind payload (Builds (with_segments old segments))) → NoneGrows kind payload old
 none_grows kind payload old none at h es e next grows = none (places_of es) at h es e next (built_with old h es grows)
 
 pub head_grows : (payload : List ℕ) (head : Head) (old new : GrownView) → HasHead head payload → new.kept ≡ old.kept
@@ -74,5 +75,5 @@ builds_listed kind payload old new other segments grows at h es e next built hel
       segments = segments ∙ (built f.held f.run).segments ∙ sym (listed_places h es e kind payload other next.saved);
     }
 
-pub none_listed : (kind : ℕ) (payload : List ℕ) (old : Built) → NoneGrows kind payload (grown_in old) → (at : ℕ) → NoneNext at kind payload old
+pub none_listed : (kind : ℕ) (payload : List ℕ) (old : Built) → NoneGrows kind payload (grown_in old) → (at : ℕ) → NoneNext at kind payload (Builds old)
 none_listed kind payload old none at h es e next built = none at h es e next (grown_by old h es built)

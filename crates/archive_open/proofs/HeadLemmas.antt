@@ -12,7 +12,8 @@ use Rattle.segment_format.proofs.FixedLemmas.{length-fixed_bytes}
 use Rattle.segment_format.proofs.HeadLemmas.{length-head_bytes}
 use Rattle.segment_format.proofs.UniqueLemmas.{fixed_once}
 use Rattle.disk_journal.specs.declared.walk.RecordPlace.{RecordPlace}
-use Rattle.archive_open.specs.StepsNext.{HasHead, HeadTold, NoHeadTold, ReadsHead, StandsWhole, payload_in}
+use Rattle.archive_open.specs.StepsNext.{HasHead, HeadTold, NoHeadTold, ReadsHead}
+use Rattle.archive_open.specs.Walk.{StandsWhole, payload_in}
 use Rattle.archive_open.proofs.ReadLemmas.{both_within, read_within}
 
 payload_long : (p : RecordPlace) (bytes : List ℕ) → StandsWhole p (Some bytes) → length (payload_in p bytes) ≡ p.length

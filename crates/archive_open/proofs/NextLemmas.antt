@@ -33,10 +33,11 @@ use Rattle.archive_meaning.proofs.UniqueLemmas.{legal_forms}
 use Rattle.archive_open.specs.declared.files.FileEntry.{FileEntry}
 use Rattle.archive_open.specs.declared.segments.SegmentPlace.{SegmentPlace}
 use Rattle.archive_open.specs.Kept.{Kept, MayHold, limit_of, texts_of, with_texts}
-use Rattle.archive_open.specs.Shown.{head_in, kept_of, placed, places_from, places_of}
+use Rattle.archive_open.specs.Shown.{files_of, head_in, kept_of, placed, places_from, places_of}
 use Rattle.archive_open.specs.StepsFiles.{GoesOn, file_with, no_file}
-use Rattle.archive_open.specs.StepsNext.{Builds, BuildsNext, Built, HasHead, IsBuilt, IsNext, NoneNext, new_file}
-use Rattle.archive_open.proofs.FilesLemmas.{entries_from, entries_get, entries_named, entries_set, length-entries}
+use Rattle.archive_open.specs.StepsNext.{Builds, BuildsNext, Built, HasHead, IsBuilt, new_file}
+use Rattle.archive_open.specs.Walk.{IsNext, Keeping, NoneNext}
+use Rattle.archive_open.proofs.FilesLemmas.{entries_get, entries_named, entries_set, length-entries}
 
 -- ---- places
 
@@ -113,7 +114,7 @@ abbrev pub entry_of : Which → ℕ → List (List ℕ) → JournalEntry
 entry_of which.Types first texts = Types first texts
 entry_of which.Words first texts = Words first texts
 
-is_texts : (kind : Which) (types : List (List ℕ)) (e : JournalEntry) (payload : List ℕ) → HasForm types e → record_of types e ≡ record { kind = number_of kind; payload = payload }
+pub is_texts : (kind : Which) (types : List (List ℕ)) (e : JournalEntry) (payload : List ℕ) → HasForm types e → record_of types e ≡ record { kind = number_of kind; payload = payload }
     → (first : ℕ) × ((texts : List (List ℕ)) × (e ≡ entry_of kind first texts) × (first < 2 ^ 32) × AreTexts texts × (payload ≡ texts_payload first texts))
 is_texts which.Types types (Files names) payload form is = let no : 1 ≡ 2 = ap (λ (r : Saved). r.kind) is in absurd (omega (arith, no))
 is_texts which.Types types (Types first texts) payload form is = (first, (texts, refl, form.0, form.1, sym (ap (λ (r : Saved). r.payload) is)))
@@ -140,32 +141,49 @@ no_entry types (Segment s) kind payload is = let has : 4 ≡ kind = ap (λ (r : 
 
 -- ---- names
 
+-- the entry of a record of these names
+pub files_entry : (at : ℕ) (payload : List ℕ) (names : List (List ℕ)) (h : Header) (es : List JournalEntry) (e : JournalEntry) → AreTexts names → payload ≡ files_payload names
+    → IsNext at 1 payload h es e → e ≡ Files names
+files_entry at payload names h es e are spells next =
+    let is = is_files (types_of es) e payload (next_form at 1 payload h es e next) next.saved in
+    is.1 ∙ ap Files (one_list is.0 names is.2 are (sym is.3 ∙ spells))
+
+-- the files with them
+pub files_named : (h : Header) (es : List JournalEntry) (names : List (List ℕ)) (more : Held) (f : Follows h es (Files names) more) → files_of more ≡ files_of f.held ++ map new_file names
+files_named h es names more f = ap files_of f.takes ∙ entries_named f.held.names names f.held.pieces f.below
+
 names_step : (h : Header) (es : List JournalEntry) (names : List (List ℕ)) (old new : Built) → IsLegal h (es ++ Files names ∷ [])
     → new.files ≡ old.files ++ map new_file names → new.kept ≡ old.kept → new.segments ≡ old.segments
     → Builds old h es → Builds new h (es ++ Files names ∷ [])
 names_step h es names old new legal files kept segments built more run =
     let f = follows h es (Files names) more legal run in
-    let held : Held = f.held in
-    let was : IsBuilt old h es held = built held f.run in
-    subst (λ x. IsBuilt new h (es ++ Files names ∷ []) x) (sym f.takes) (record {
-      kept = kept ∙ was.kept;
-      files = files ∙ ap (λ l. l ++ map new_file names) was.files ∙ sym (entries_named held.names names held.pieces f.below);
+    let was : IsBuilt old h es f.held = built f.held f.run in
+    record {
+      kept = kept ∙ was.kept ∙ ap (kept_of h) (sym f.takes);
+      files = files ∙ ap (λ l. l ++ map new_file names) was.files ∙ sym (files_named h es names more f);
       segments = segments ∙ was.segments ∙ sym (places_more h es (Files names) ∙ append-nil (places_of es));
-    })
+    }
 
 pub names_built : (at : ℕ) (payload : List ℕ) (names : List (List ℕ)) (old new : Built) → AreTexts names → payload ≡ files_payload names
     → new.files ≡ old.files ++ map new_file names → new.kept ≡ old.kept → new.segments ≡ old.segments → BuildsNext at 1 payload old new
 names_built at payload names old new are spells files kept segments h es e next built =
-    let is = is_files (types_of es) e payload (next_form at 1 payload h es e next) next.saved in
-    let same : e ≡ Files names = is.1 ∙ ap Files (one_list is.0 names is.2 are (sym is.3 ∙ spells)) in
+    let same : e ≡ Files names = files_entry at payload names h es e are spells next in
     subst (λ f. Builds new h (es ++ f ∷ [])) (sym same)
     (names_step h es names old new (subst (λ f. IsLegal h (es ++ f ∷ [])) same next.legal) files kept segments built)
 
-pub no_names : (at : ℕ) (payload : List ℕ) (old : Built) → ((names : List (List ℕ)) → AreTexts names → payload ≢ files_payload names) → NoneNext at 1 payload old
-no_names at payload old none h es e next built =
+pub no_names : (at : ℕ) (payload : List ℕ) (old : Keeping) → ((names : List (List ℕ)) → AreTexts names → payload ≢ files_payload names) → NoneNext at 1 payload old
+no_names at payload old none h es e next was =
     let is = is_files (types_of es) e payload (next_form at 1 payload h es e next) next.saved in none is.0 is.2 is.3
 
 -- ---- texts
+
+-- the entry of a record of these texts
+pub texts_entry : (kind : Which) (at : ℕ) (payload : List ℕ) (first : ℕ) (texts : List (List ℕ)) (h : Header) (es : List JournalEntry) (e : JournalEntry) → first < 2 ^ 32 → AreTexts texts
+    → payload ≡ texts_payload first texts → IsNext at (number_of kind) payload h es e → e ≡ entry_of kind first texts
+texts_entry kind at payload first texts h es e fits are spells next =
+    let is = is_texts kind (types_of es) e payload (next_form at (number_of kind) payload h es e next) next.saved in
+    let one = one_texts is.0 first is.1.0 texts is.1.2 fits is.1.3 are (sym is.1.4 ∙ spells) in
+    is.1.1 ∙ ap₂ (λ n l. entry_of kind n l) one.0 one.1
 
 texts_step : (kind : Which) (h : Header) (es : List JournalEntry) (first : ℕ) (texts : List (List ℕ)) (old new : Built) → IsLegal h (es ++ entry_of kind first texts ∷ [])
     → new.kept ≡ with_texts kind texts old.kept → new.files ≡ old.files → new.segments ≡ old.segments
@@ -190,35 +208,27 @@ texts_step which.Words h es first texts old new legal kept files segments built 
 pub texts_built : (kind : Which) (at : ℕ) (payload : List ℕ) (first : ℕ) (texts : List (List ℕ)) (old new : Built) → first < 2 ^ 32 → AreTexts texts → payload ≡ texts_payload first texts
     → new.kept ≡ with_texts kind texts old.kept → new.files ≡ old.files → new.segments ≡ old.segments → BuildsNext at (number_of kind) payload old new
 texts_built kind at payload first texts old new fits are spells kept files segments h es e next built =
-    let is = is_texts kind (types_of es) e payload (next_form at (number_of kind) payload h es e next) next.saved in
-    let one = one_texts is.0 first is.1.0 texts is.1.2 fits is.1.3 are (sym is.1.4 ∙ spells) in
-    let same : e ≡ entry_of kind first texts = is.1.1 ∙ ap₂ (λ n l. entry_of kind n l) one.0 one.1 in
+    let same : e ≡ entry_of kind first texts = texts_entry kind at payload first texts h es e fits are spells next in
     subst (λ f. Builds new h (es ++ f ∷ [])) (sym same)
     (texts_step kind h es first texts old new (subst (λ f. IsLegal h (es ++ f ∷ [])) same next.legal) kept files segments built)
 
--- texts that follow are numbered on, and the dictionary may have them
-may_follow : (kind : Which) (h : Header) (es : List JournalEntry) (first : ℕ) (texts : List (List ℕ)) (old : Built) → IsLegal h (es ++ entry_of kind first texts ∷ []) → Builds old h es
-    → (first ≡ length (texts_of kind old.kept)) × MayHold (limit_of kind old.kept) (texts_of kind old.kept ++ texts)
-may_follow which.Types h es first texts old legal built =
-    let f = own_follows h es (Types first texts) legal in
-    let kept : old.kept ≡ kept_of h f.held = (built f.held f.run).kept in
-    let t = f.takes.0 in
-    subst (λ (k : Kept). (first ≡ length k.types) × MayHold k.types_limit (k.types ++ texts)) (sym kept)
-    (t.behind, record { distinct = t.book.distinct; most = t.book.most })
-may_follow which.Words h es first texts old legal built =
-    let f = own_follows h es (Words first texts) legal in
-    let kept : old.kept ≡ kept_of h f.held = (built f.held f.run).kept in
-    let t = f.takes.0 in
-    subst (λ (k : Kept). (first ≡ length k.words) × MayHold k.words_limit (k.words ++ texts)) (sym kept)
-    (t.behind, record { distinct = t.book.distinct; most = t.book.most })
+-- these texts may be the next of a dictionary: they are numbered on, and it may have them
+abbrev pub MayFollow : Which → ℕ → List (List ℕ) → Kept → Type 0
+MayFollow kind first texts k = (first ≡ length (texts_of kind k)) × MayHold (limit_of kind k) (texts_of kind k ++ texts)
+
+pub may_follow : (kind : Which) (h : Header) (es : List JournalEntry) (first : ℕ) (texts : List (List ℕ)) (more : Held) (f : Follows h es (entry_of kind first texts) more)
+    → MayFollow kind first texts (kept_of h f.held)
+may_follow which.Types h es first texts more f = (f.takes.0.behind, record { distinct = f.takes.0.book.distinct; most = f.takes.0.book.most })
+may_follow which.Words h es first texts more f = (f.takes.0.behind, record { distinct = f.takes.0.book.distinct; most = f.takes.0.book.most })
 
 pub no_texts : (kind : Which) (at : ℕ) (payload : List ℕ) (old : Built)
     → ((first : ℕ) (texts : List (List ℕ)) → first < 2 ^ 32 → AreTexts texts → payload ≡ texts_payload first texts → first ≡ length (texts_of kind old.kept)
     → MayHold (limit_of kind old.kept) (texts_of kind old.kept ++ texts) → ⊥)
-    → NoneNext at (number_of kind) payload old
+    → NoneNext at (number_of kind) payload (Builds old)
 no_texts kind at payload old none h es e next built =
     let is = is_texts kind (types_of es) e payload (next_form at (number_of kind) payload h es e next) next.saved in
-    let may = may_follow kind h es is.0 is.1.0 old (subst (λ f. IsLegal h (es ++ f ∷ [])) is.1.1 next.legal) built in
+    let f = own_follows h es (entry_of kind is.0 is.1.0) (subst (λ f. IsLegal h (es ++ f ∷ [])) is.1.1 next.legal) in
+    let may = subst (MayFollow kind is.0 is.1.0) (sym (built f.held f.run).kept) (may_follow kind h es is.0 is.1.0 _ f) in
     none is.0 is.1.0 is.1.2 is.1.3 is.1.4 may.0 may.1
 
 -- ---- segments
@@ -248,25 +258,29 @@ pub own_head : (types : List (List ℕ)) (s : SegmentEntry) (payload : List ℕ)
     → payload ≡ head_bytes (head_in types s) ++ columns_bytes s.rows → HasHead (head_in types s) payload
 own_head types s payload form is = record { fits = segment_head types s form; rest = columns_bytes s.rows; spells = is }
 
+-- the files with a segment
+pub files_more : (h : Header) (es : List JournalEntry) (s : SegmentEntry) (more : Held) (f : Follows h es (Segment s) more)
+    → files_of more ≡ set (files_of f.held) s.file (file_with (get_or (files_of f.held) s.file no_file) (head_in (types_of es) s))
+files_more h es s more f =
+    let held : Held = f.held in
+    let adds : AddsSegment h.version held s f.takes.0 = f.takes.1 in
+    let p : Piece = piece_of s f.takes.0 in
+    let at : 0 + s.file ≡ p.file = omega arith in
+    ap files_of f.takes.2 ∙ entries_set 0 held.names held.pieces p s.file (length s.rows) at f.named.0 adds.goes_on adds.ended
+    (canonical_length h.version s.rows held.types held.words f.takes.0 adds.canonical)
+
 segment_step : (h : Header) (es : List JournalEntry) (s : SegmentEntry) (old new : Built) → IsLegal h (es ++ Segment s ∷ [])
     → new.kept ≡ old.kept → new.segments ≡ old.segments ++ placed (length (front_of h es)) (types_of es) (Segment s)
     → new.files ≡ set old.files s.file (file_with (get_or old.files s.file no_file) (head_in (types_of es) s))
     → Builds old h es → Builds new h (es ++ Segment s ∷ [])
 segment_step h es s old new legal kept segments files built more run =
     let f = follows h es (Segment s) more legal run in
-    let held : Held = f.held in
-    let messages : List (List ℕ) = f.takes.0 in
-    let adds : AddsSegment h.version held s messages = f.takes.1 in
-    let was : IsBuilt old h es held = built held f.run in
-    let p : Piece = piece_of s messages in
-    let at : 0 + s.file ≡ p.file = omega arith in
-    subst (λ x. IsBuilt new h (es ++ Segment s ∷ []) x) (sym f.takes.2) (record {
-      kept = kept ∙ was.kept;
-      files = files ∙ ap (λ (l : List FileEntry). set l s.file (file_with (get_or l s.file no_file) (head_in (types_of es) s))) was.files
-          ∙ sym (entries_set 0 held.names held.pieces p s.file (length s.rows) at f.named.0 adds.goes_on adds.ended
-          (canonical_length h.version s.rows held.types held.words messages adds.canonical));
+    let was : IsBuilt old h es f.held = built f.held f.run in
+    record {
+      kept = kept ∙ was.kept ∙ ap (kept_of h) (sym f.takes.2);
+      files = files ∙ ap (λ (l : List FileEntry). set l s.file (file_with (get_or l s.file no_file) (head_in (types_of es) s))) was.files ∙ sym (files_more h es s more f);
       segments = segments ∙ ap (λ l. l ++ placed (length (front_of h es)) (types_of es) (Segment s)) was.segments ∙ sym (places_more h es (Segment s));
-    })
+    }
 
 same_place : (at payload length other_payload other_length : ℕ) (head other : Head) → payload ≡ other_payload → length ≡ other_length → head ≡ other
     → (let x : SegmentPlace = record { at = at; payload = payload; length = length; head = head } in x) ≡ record { at = at; payload = other_payload; length = other_length; head = other }
@@ -286,21 +300,21 @@ segment_built at payload head place old new has at_place kept segments files h e
     (segment_step h es s old new (subst (λ f. IsLegal h (es ++ f ∷ [])) is.1 next.legal) kept (segments ∙ ap (λ x. old.segments ++ x ∷ []) here)
     (files ∙ ap (λ (k : Head). set old.files k.file (file_with (get_or old.files k.file no_file) k)) mine) built)
 
-pub no_head : (at : ℕ) (payload : List ℕ) (old : Built) → ((head : Head) → HasHead head payload → ⊥) → NoneNext at 4 payload old
-no_head at payload old none h es e next built =
+pub no_head : (at : ℕ) (payload : List ℕ) (old : Keeping) → ((head : Head) → HasHead head payload → ⊥) → NoneNext at 4 payload old
+no_head at payload old none h es e next was =
     let is = is_segment (types_of es) e payload (next_form at 4 payload h es e next) next.saved in
     none (head_in (types_of es) is.0) (own_head (types_of es) is.0 payload is.2 is.3)
 
-may_go_on : (h : Header) (es : List JournalEntry) (s : SegmentEntry) (old : Built) → IsLegal h (es ++ Segment s ∷ []) → Builds old h es
-    → (s.file < length old.files) × GoesOn (get_or old.files s.file no_file) (head_in (types_of es) s)
-may_go_on h es s old legal built =
-    let f = own_follows h es (Segment s) legal in
+-- a segment with this head may be the next of these files
+abbrev pub MayGoOn : Head → List FileEntry → Type 0
+MayGoOn head files = (head.file < length files) × GoesOn (get_or files head.file no_file) head
+
+pub may_go_on : (h : Header) (es : List JournalEntry) (s : SegmentEntry) (more : Held) (f : Follows h es (Segment s) more) → MayGoOn (head_in (types_of es) s) (files_of f.held)
+may_go_on h es s more f =
     let held : Held = f.held in
     let adds : AddsSegment h.version held s f.takes.0 = f.takes.1 in
-    let files : old.files ≡ entries_from 0 held.names held.pieces = (built held f.run).files in
     let at : 0 + s.file ≡ s.file = omega arith in
-    let got = entries_get 0 held.names held.pieces s.file f.named.0 in
-    subst (λ (l : List FileEntry). (s.file < length l) × GoesOn (get_or l s.file no_file) (head_in (types_of es) s)) (sym files) (
+    let got = entries_get 0 held.names held.pieces s.file f.named.0 in (
       omega (arith, f.named.0, length-entries 0 held.names held.pieces),
       record {
         whole = got.1 ∙ ap (λ k. is_whole k held.pieces) at ∙ adds.goes_on;
@@ -310,9 +324,10 @@ may_go_on h es s old legal built =
     )
 
 pub no_segment : (at : ℕ) (payload : List ℕ) (head : Head) (old : Built) → HasHead head payload
-    → (head.file < length old.files → GoesOn (get_or old.files head.file no_file) head → ⊥) → NoneNext at 4 payload old
+    → (head.file < length old.files → GoesOn (get_or old.files head.file no_file) head → ⊥) → NoneNext at 4 payload (Builds old)
 no_segment at payload head old has none h es e next built =
     let is = is_segment (types_of es) e payload (next_form at 4 payload h es e next) next.saved in
     let mine : head ≡ head_in (types_of es) is.0 = one_head (types_of es) is.0 payload head is.2 is.3 has in
-    let may = may_go_on h es is.0 old (subst (λ f. IsLegal h (es ++ f ∷ [])) is.1 next.legal) built in
+    let f = own_follows h es (Segment is.0) (subst (λ f. IsLegal h (es ++ f ∷ [])) is.1 next.legal) in
+    let may = subst (MayGoOn (head_in (types_of es) is.0)) (sym (built f.held f.run).files) (may_go_on h es is.0 _ f) in
     subst (λ (k : Head). (k.file < length old.files → GoesOn (get_or old.files k.file no_file) k → ⊥)) mine none may.0 may.1

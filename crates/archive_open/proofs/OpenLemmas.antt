@@ -10,8 +10,9 @@ use Rattle.disk_journal.specs.Place.{Walked}
 use Rattle.disk_journal.specs.State.{BeginsWith, IsAtFirst, JournalState}
 use Rattle.disk_journal.specs.Calls.{HasNoHeader}
 use Rattle.archive_open.specs.Kept.{none_of}
-use Rattle.archive_open.specs.Shown.{HasLastGate, IsLastGate, Opens, RefusedAt, Shown, Spares, StandsForNone, order_of}
-use Rattle.archive_open.specs.StepsNext.{AreOpening, AreWhole, Builds, Built, EndsWith, GoesWith, IsBuilt, LastGateTold, Looks}
+use Rattle.archive_open.specs.Shown.{HasLastGate, IsLastGate, Looks, Opens, RefusedAt, Shown, Spares, StandsForNone, order_of}
+use Rattle.archive_open.specs.StepsNext.{AreOpening, Builds, Built, GoesWith, IsBuilt}
+use Rattle.archive_open.specs.Walk.{AreWhole, EndsWith, Keeping, LastGateTold}
 use Rattle.disk_journal.proofs.JournalLemmas.{walk_starts}
 use Rattle.archive_open.proofs.AsideLemmas.{header_aside, spares_on, within_aside}
 use Rattle.archive_open.proofs.ReadLemmas.{Ranges, read_within}
@@ -19,32 +20,32 @@ use Rattle.archive_open.proofs.WalkLemmas.{no_header, opening_starts}
 
 -- ---- the beginning
 
-builds_none : (b : Built) (h : Header) → b.kept ≡ none_of h → b.files ≡ [] → b.segments ≡ [] → Builds b h []
+pub builds_none : (b : Built) (h : Header) → b.kept ≡ none_of h → b.files ≡ [] → b.segments ≡ [] → Builds b h []
 builds_none b h kept files segments held run = subst (λ x. IsBuilt b h [] x) (sym run) (record { kept = kept; files = files; segments = segments })
 
-starts_told : (seen : Option (List ℕ)) (b : Built) (h : Header) → IsHeader h → Walked (header_bytes h) 32 0 seen → Builds b h [] → AreOpening b h 32 0 seen
-starts_told None b h is walked built = tt
-starts_told (Some bytes) b h is walked built =
-    opening_starts b h bytes walked.rest is (walked.spells ∙ ap (λ (l : List ℕ). l ++ walked.rest) (append-nil (header_bytes h))) built
+starts_told : (seen : Option (List ℕ)) (b : Keeping) (h : Header) → IsHeader h → Walked (header_bytes h) 32 0 seen → b h [] → AreOpening b h 32 0 seen
+starts_told None b h is walked kept = tt
+starts_told (Some bytes) b h is walked kept =
+    opening_starts b h bytes walked.rest is (walked.spells ∙ ap (λ (l : List ℕ). l ++ walked.rest) (append-nil (header_bytes h))) kept
 
-pub goes_first : (b : Built) (j : JournalState) → IsAtFirst j → BeginsWith j.header j.disk → b.kept ≡ none_of j.header → b.files ≡ [] → b.segments ≡ [] → GoesWith b j
-goes_first b j first begins kept files segments = record {
-  built =
+pub goes_first : (b : Keeping) (j : JournalState) → IsAtFirst j → BeginsWith j.header j.disk → b j.header [] → GoesWith b j
+goes_first b j first begins kept = record {
+  kept =
       subst (λ n. AreOpening b j.header n j.count j.disk.seen) (sym first.place)
       (subst (λ n. AreOpening b j.header 32 n j.disk.seen) (sym first.count)
-      (starts_told j.disk.seen b j.header begins.legal begins.walked (builds_none b j.header kept files segments)));
+      (starts_told j.disk.seen b j.header begins.legal begins.walked kept));
   walked = walk_starts j first begins;
   header = begins.legal;
 }
 
 -- ---- the end
 
-opens_told : (seen : Option (List ℕ)) (b : Built) (header : Header) (place count : ℕ) (a : Shown) → AreWhole b header place count seen → a.header ≡ header → a.kept ≡ b.kept → a.files ≡ b.files
+opens_told : (seen : Option (List ℕ)) (b : Built) (header : Header) (place count : ℕ) (a : Shown) → AreWhole (Builds b) header place count seen → a.header ≡ header → a.kept ≡ b.kept → a.files ≡ b.files
     → IsPermutation b.segments a.segments → IsNonDecreasingBy order_of a.segments → a.entries ≡ count → a.end ≡ place + 1 → Opens seen a
 opens_told None b header place count a whole is_header kept files same sorted entries end = tt
 opens_told (Some bytes) b header place count a whole is_header kept files same sorted entries end = λ h es stood.
     let w = whole h es stood in
-    let built : IsBuilt b h es stood.legal.held = w.built stood.legal.held stood.legal.run in
+    let built : IsBuilt b h es stood.legal.held = w.kept stood.legal.held stood.legal.run in
     record {
       header = is_header ∙ sym w.one;
       kept = kept ∙ built.kept;
@@ -55,10 +56,10 @@ opens_told (Some bytes) b header place count a whole is_header kept files same s
       end = end ∙ ap (λ n. n + 1) w.gate;
     }
 
-pub opens : (b : Built) (old new : JournalState) (a : Shown) → Looks old new → EndsWith b new → a.header ≡ old.header → a.kept ≡ b.kept → a.files ≡ b.files
+pub opens : (b : Built) (old new : JournalState) (a : Shown) → Looks old new → EndsWith (Builds b) new → a.header ≡ old.header → a.kept ≡ b.kept → a.files ≡ b.files
     → IsPermutation b.segments a.segments → IsNonDecreasingBy order_of a.segments → a.entries ≡ new.count → a.end ≡ new.place + 1 → Opens old.disk.seen a
 opens b old new a looks ends is_header kept files same sorted entries end =
-    opens_told old.disk.seen b new.header new.place new.count a (subst (λ s. AreWhole b new.header new.place new.count s) looks.rests.seen ends.whole)
+    opens_told old.disk.seen b new.header new.place new.count a (subst (λ s. AreWhole (Builds b) new.header new.place new.count s) looks.rests.seen ends.whole)
     (is_header ∙ sym looks.header) kept files same sorted entries end
 
 last_gate_told : (seen : Option (List ℕ)) (place : ℕ) (a : Shown) → LastGateTold place seen → a.end ≡ place + 1 → HasLastGate seen a
@@ -67,7 +68,7 @@ last_gate_told (Some bytes) place a last end =
     let same : place ≡ a.end - 1 = omega (arith, end) in
     subst (λ n. IsLastGate n bytes) same last
 
-pub has_last_gate : (b : Built) (old new : JournalState) (a : Shown) → Looks old new → EndsWith b new → a.end ≡ new.place + 1 → HasLastGate old.disk.seen a
+pub has_last_gate : (b : Keeping) (old new : JournalState) (a : Shown) → Looks old new → EndsWith b new → a.end ≡ new.place + 1 → HasLastGate old.disk.seen a
 has_last_gate b old new a looks ends end =
     last_gate_told old.disk.seen new.place a (subst (λ s. LastGateTold new.place s) looks.rests.seen ends.last) end
 

@@ -11,7 +11,8 @@ use Rattle.archive_open.specs.declared.refusal.ArchiveRefusal.{ArchiveRefusal}
 use Rattle.disk_journal.specs.declared.refusals.StartRefusal.{StartRefusal}
 use Rattle.disk_journal.specs.declared.refusals.WalkRefusal.{WalkRefusal}
 use Rattle.archive_open.specs.Refused.{from_load, from_start, from_walk}
-use Rattle.archive_open.specs.StepsNext.{Looks, ReadsWithin}
+use Rattle.archive_open.specs.Shown.{Looks}
+use Rattle.archive_open.specs.Walk.{ReadsWithin}
 
 abbrev pub Ranges : Type 0
 Ranges = Option (List (ℕ × ℕ))

@@ -8,8 +8,9 @@ use Rattle.disk_journal.specs.Place.{ClosedAt, IsDamaged, OpenAt, Walked}
 use Rattle.disk_journal.specs.State.{IsWalked, JournalState}
 use Rattle.disk_journal.specs.Calls.{HasDamage, HasEnded, HasPassed, OnlyReads, StaysAt}
 use Rattle.disk_journal.specs.declared.walk.RecordPlace.{RecordPlace}
-use Rattle.archive_open.specs.Shown.{RefusedAt, Spares}
-use Rattle.archive_open.specs.StepsNext.{AreOpening, AreWhole, BuildsTold, Built, EndsWith, GoesOnTo, GoesWith, LastGateTold, Looks, NoneTold, ReadsOf, StandsWhole}
+use Rattle.archive_open.specs.Shown.{Looks, RefusedAt, Spares}
+use Rattle.archive_open.specs.StepsNext.{AreOpening, GoesOnTo, GoesWith}
+use Rattle.archive_open.specs.Walk.{AreWhole, EndsWith, Keeping, KeepsTold, LastGateTold, NoneTold, ReadsOf, StandsWhole}
 use Rattle.archive_open.proofs.AsideLemmas.{gate_spared, record_spared, spares_on}
 use Rattle.archive_open.proofs.ReadLemmas.{Ranges, looks, looks_on}
 use Rattle.disk_journal.proofs.JournalLemmas.{walk_halts, walk_passes}
@@ -26,25 +27,25 @@ at_gate : (seen : Option (List ℕ)) (h : Header) (place count : ℕ) → IsHead
 at_gate None h place count is walked refused = tt
 at_gate (Some bytes) h place count is walked refused = record { none = refused.0; behind = refused.1; gate = inr (h, (is, (count, walked))) }
 
-on_told : (seen : Option (List ℕ)) (b new : Built) (header : Header) (place count : ℕ) (p : RecordPlace) → AreOpening b header place count seen → p.at ≡ place → p.payload ≡ p.at + 10
-    → OpenAt p.at p.kind p.length seen → BuildsTold p seen b new → AreOpening new header (p.payload + p.length) (suc count) seen
-on_told None b new header place count p o here payload found builds = tt
-on_told (Some bytes) b new header place count p o here payload found builds = opening_on b header place count bytes o p here payload found new builds
+on_told : (seen : Option (List ℕ)) (b new : Keeping) (header : Header) (place count : ℕ) (p : RecordPlace) → AreOpening b header place count seen → p.at ≡ place → p.payload ≡ p.at + 10
+    → OpenAt p.at p.kind p.length seen → KeepsTold p seen b new → AreOpening new header (p.payload + p.length) (suc count) seen
+on_told None b new header place count p o here payload found keeps = tt
+on_told (Some bytes) b new header place count p o here payload found keeps = opening_on b header place count bytes o p here payload found new keeps
 
-end_told : (seen : Option (List ℕ)) (b : Built) (header : Header) (place count : ℕ) → AreOpening b header place count seen → ClosedAt place seen → AreWhole b header place count seen
+end_told : (seen : Option (List ℕ)) (b : Keeping) (header : Header) (place count : ℕ) → AreOpening b header place count seen → ClosedAt place seen → AreWhole b header place count seen
 end_told None b header place count o shut = tt
 end_told (Some bytes) b header place count o shut = whole_here b header place count bytes o shut
 
-last_told : (seen : Option (List ℕ)) (b : Built) (header : Header) (place count : ℕ) → AreOpening b header place count seen → IsHeader header → Walked (header_bytes header) place count seen
+last_told : (seen : Option (List ℕ)) (b : Keeping) (header : Header) (place count : ℕ) → AreOpening b header place count seen → IsHeader header → Walked (header_bytes header) place count seen
     → ClosedAt place seen → LastGateTold place seen
 last_told None b header place count o is walked shut = tt
 last_told (Some bytes) b header place count o is walked shut = last_here b header place count bytes o is walked shut
 
-damaged_told : (seen : Option (List ℕ)) (b : Built) (header : Header) (place count : ℕ) → AreOpening b header place count seen → IsDamaged place seen → RefusesTold place seen
+damaged_told : (seen : Option (List ℕ)) (b : Keeping) (header : Header) (place count : ℕ) → AreOpening b header place count seen → IsDamaged place seen → RefusesTold place seen
 damaged_told None b header place count o damage = tt
 damaged_told (Some bytes) b header place count o damage = damaged_here b header place count bytes o damage
 
-refused_told : (seen : Option (List ℕ)) (b : Built) (header : Header) (place count : ℕ) (p : RecordPlace) → AreOpening b header place count seen → p.at ≡ place → p.payload ≡ p.at + 10
+refused_told : (seen : Option (List ℕ)) (b : Keeping) (header : Header) (place count : ℕ) (p : RecordPlace) → AreOpening b header place count seen → p.at ≡ place → p.payload ≡ p.at + 10
     → OpenAt p.at p.kind p.length seen → NoneTold p seen b → RefusesTold place seen
 refused_told None b header place count p o here payload found none = tt
 refused_told (Some bytes) b header place count p o here payload found none = refused_here b header place count bytes o p here payload found none
@@ -53,12 +54,12 @@ pub none_refused : (seen : Option (List ℕ)) (at : ℕ) → IsNone seen → Ref
 none_refused None at none = tt
 none_refused (Some bytes) at none = absurd (cc (none))
 
-gate_told : (seen : Option (List ℕ)) (b : Built) (header : Header) (place count : ℕ) (old new : DiskState) → AreOpening b header place count seen → ReadsOnly place 10 old new
+gate_told : (seen : Option (List ℕ)) (b : Keeping) (header : Header) (place count : ℕ) (old new : DiskState) → AreOpening b header place count seen → ReadsOnly place 10 old new
     → Spares seen old.ranges new.ranges
 gate_told None b header place count old new o reads = tt
 gate_told (Some bytes) b header place count old new o reads = gate_spared b header place count bytes o old new reads
 
-record_told : (seen : Option (List ℕ)) (b : Built) (header : Header) (place count : ℕ) (p : RecordPlace) (old new : Ranges) → AreOpening b header place count seen → p.at ≡ place
+record_told : (seen : Option (List ℕ)) (b : Keeping) (header : Header) (place count : ℕ) (p : RecordPlace) (old new : Ranges) → AreOpening b header place count seen → p.at ≡ place
     → p.payload ≡ p.at + 10 → OpenAt p.at p.kind p.length seen → ReadsOf p seen old new → Spares seen old new
 record_told None b header place count p old new o here payload found reads = tt
 record_told (Some bytes) b header place count p old new o here payload found reads = record_spared b header place count bytes o p here payload found old new reads
@@ -81,15 +82,15 @@ still_walked old new looks stays walked =
     (subst (λ (n : ℕ). Walked (header_bytes old.header) old.place n new.disk.seen) (sym stays.count)
     (subst (λ (s : Option (List ℕ)). Walked (header_bytes old.header) old.place old.count s) (sym looks.rests.seen) walked)))
 
-module _ (b : Built) (old mid : JournalState) (goes : GoesWith b old) (reads : OnlyReads old.place 10 old mid) where
+module _ (b : Keeping) (old mid : JournalState) (goes : GoesWith b old) (reads : OnlyReads old.place 10 old mid) where
   pub gate_read : Spares old.disk.seen old.disk.ranges mid.disk.ranges
-  gate_read = gate_told old.disk.seen b old.header old.place old.count old.disk mid.disk goes.built reads.ranges
+  gate_read = gate_told old.disk.seen b old.header old.place old.count old.disk mid.disk goes.kept reads.ranges
 
   pub walk_damaged : (at : ℕ) → HasDamage at old → RefusedAt at old.disk.seen
   walk_damaged at damage =
       subst (λ n. RefusedAt n old.disk.seen) (sym damage.here)
       (at_gate old.disk.seen old.header old.place old.count goes.header goes.walked
-      (damaged_told old.disk.seen b old.header old.place old.count goes.built (subst (λ n. IsDamaged n old.disk.seen) damage.here damage.damaged)))
+      (damaged_told old.disk.seen b old.header old.place old.count goes.kept (subst (λ n. IsDamaged n old.disk.seen) damage.here damage.damaged)))
 
   pub walk_ended : HasEnded old mid → EndsWith b mid
   walk_ended ended = record {
@@ -98,13 +99,13 @@ module _ (b : Built) (old mid : JournalState) (goes : GoesWith b old) (reads : O
     last =
         subst (λ n. LastGateTold n mid.disk.seen) (sym ended.place)
         (subst (λ s. LastGateTold old.place s) (sym reads.rests.seen)
-        (last_told old.disk.seen b old.header old.place old.count goes.built goes.header goes.walked ended.gate));
+        (last_told old.disk.seen b old.header old.place old.count goes.kept goes.header goes.walked ended.gate));
     whole =
         subst (λ h. AreWhole b h mid.place mid.count mid.disk.seen) (sym reads.header)
         (subst (λ n. AreWhole b old.header n mid.count mid.disk.seen) (sym ended.place)
         (subst (λ n. AreWhole b old.header old.place n mid.disk.seen) (sym ended.count)
         (subst (λ s. AreWhole b old.header old.place old.count s) (sym reads.rests.seen)
-        (end_told old.disk.seen b old.header old.place old.count goes.built ended.gate))));
+        (end_told old.disk.seen b old.header old.place old.count goes.kept ended.gate))));
   }
 
   module _ (p : RecordPlace) (passed : HasPassed p old mid) where
@@ -120,16 +121,16 @@ module _ (b : Built) (old mid : JournalState) (goes : GoesWith b old) (reads : O
     pub record_read : (new : JournalState) → ReadsOf p mid.disk.seen mid.disk.ranges new.disk.ranges → Spares old.disk.seen old.disk.ranges new.disk.ranges
     record_read new more =
         spares_on old.disk.seen old.disk.seen old.disk.ranges mid.disk.ranges new.disk.ranges refl gate_read
-        (record_told old.disk.seen b old.header old.place old.count p mid.disk.ranges new.disk.ranges goes.built passed.at passed.payload found_at
+        (record_told old.disk.seen b old.header old.place old.count p mid.disk.ranges new.disk.ranges goes.kept passed.at passed.payload found_at
         (subst (λ s. ReadsOf p s mid.disk.ranges new.disk.ranges) reads.rests.seen more))
 
-    pub walk_on : (next : Built) (new : JournalState) → Looks mid new → StaysAt mid new → BuildsTold p mid.disk.seen b next → GoesOnTo old next new
-    walk_on next new looks_new stays builds =
+    pub walk_on : (next : Keeping) (new : JournalState) → Looks mid new → StaysAt mid new → KeepsTold p mid.disk.seen b next → GoesOnTo old next new
+    walk_on next new looks_new stays keeps =
         let count : suc old.count ≡ new.count = omega (arith, stays.count, passed.count) in
-        let told = on_told old.disk.seen b next old.header old.place old.count p goes.built passed.at passed.payload found_at (subst (λ s. BuildsTold p s b next) reads.rests.seen builds) in
+        let told = on_told old.disk.seen b next old.header old.place old.count p goes.kept passed.at passed.payload found_at (subst (λ s. KeepsTold p s b next) reads.rests.seen keeps) in
         record {
           goes = record {
-            built =
+            kept =
                 subst (λ h. AreOpening next h new.place new.count new.disk.seen) (sym (looks_new.header ∙ reads.header))
                 (subst (λ n. AreOpening next old.header n new.count new.disk.seen) (sym (stays.place ∙ passed.place))
                 (subst (λ n. AreOpening next old.header (p.payload + p.length) n new.disk.seen) count
@@ -145,7 +146,7 @@ module _ (b : Built) (old mid : JournalState) (goes : GoesWith b old) (reads : O
     walk_refused none =
         subst (λ n. RefusedAt n old.disk.seen) (sym passed.at)
         (at_gate old.disk.seen old.header old.place old.count goes.header goes.walked
-        (refused_told old.disk.seen b old.header old.place old.count p goes.built passed.at passed.payload found_at (subst (λ s. NoneTold p s b) reads.rests.seen none)))
+        (refused_told old.disk.seen b old.header old.place old.count p goes.kept passed.at passed.payload found_at (subst (λ s. NoneTold p s b) reads.rests.seen none)))
 
   pub load_refused : (at : ℕ) → IsNone mid.disk.seen → RefusedAt at old.disk.seen
   load_refused at none = none_refused old.disk.seen at (subst (λ s. IsNone s) reads.rests.seen none)

@@ -12,11 +12,12 @@ use Rattle.archive_meaning.specs.Spelled.{record_of, types_of}
 use Rattle.archive_open.specs.declared.segments.SegmentPlace.{SegmentPlace}
 use Rattle.archive_open.specs.Shown.{head_in}
 use Rattle.archive_open.specs.StepsFiles.{GoesOn, file_with, no_file}
-use Rattle.archive_open.specs.StepsNext.{BuildsNext, BuildsTold, Built, HeadTold, IsNext, NoHeadTold, NoneNext, NoneTold, ReadsHead, ReadsOf, ReadsWithin, StandsWhole, payload_in, shown_len}
+use Rattle.archive_open.specs.StepsNext.{Builds, BuildsNext, BuildsTold, Built, HeadTold, NoHeadTold, ReadsHead}
+use Rattle.archive_open.specs.Walk.{IsNext, Keeping, KeepsNext, KeepsTold, NoneNext, NoneTold, ReadsOf, ReadsWithin, StandsWhole, payload_in, shown_len}
 use Rattle.archive_open.proofs.NextLemmas.{is_segment, next_form, no_entry, no_head, no_segment, own_head, segment_built}
 use Rattle.archive_open.proofs.ReadLemmas.{Ranges, nothing_read, read_within}
 
-payload_size : (p : RecordPlace) (bytes : List ℕ) → StandsWhole p (Some bytes) → length (payload_in p bytes) ≡ p.length
+pub payload_size : (p : RecordPlace) (bytes : List ℕ) → StandsWhole p (Some bytes) → length (payload_in p bytes) ≡ p.length
 payload_size p bytes whole =
     length-take-le p.length (drop p.payload bytes) (omega (arith, whole.found.within, whole.payload, length-drop p.payload bytes))
 
@@ -30,7 +31,7 @@ head_reads_of p (Some bytes) old new four reads = λ h es e next.
     subst (λ f. ReadsWithin p.payload (shown_len (types_of es) f) old new) (sym is.1)
     (reads (head_in (types_of es) is.0) (own_head (types_of es) is.0 (payload_in p bytes) is.2 is.3))
 
-pub none_without_head : (p : RecordPlace) (seen : Option (List ℕ)) (old : Built) → p.kind ≡ 4 → NoHeadTold p seen → NoneTold p seen old
+pub none_without_head : (p : RecordPlace) (seen : Option (List ℕ)) (old : Keeping) → p.kind ≡ 4 → NoHeadTold p seen → NoneTold p seen old
 none_without_head p None old four none = tt
 none_without_head p (Some bytes) old four none =
     subst (λ k. NoneNext p.at k (payload_in p bytes) old) (sym four) (no_head p.at (payload_in p bytes) old none)
@@ -46,10 +47,10 @@ segment_told p (Some bytes) head old new whole four has kept segments files =
     subst (λ k. BuildsNext p.at k (payload_in p bytes) old new) (sym four) (segment_built p.at (payload_in p bytes) head place old new has here kept segments files)
 
 pub segment_not_told : (p : RecordPlace) (seen : Option (List ℕ)) (head : Head) (old : Built) → p.kind ≡ 4 → HeadTold head p seen
-    → (head.file < length old.files → GoesOn (get_or old.files head.file no_file) head → ⊥) → NoneTold p seen old
+    → (head.file < length old.files → GoesOn (get_or old.files head.file no_file) head → ⊥) → NoneTold p seen (Builds old)
 segment_not_told p None head old four has none = tt
 segment_not_told p (Some bytes) head old four has none =
-    subst (λ k. NoneNext p.at k (payload_in p bytes) old) (sym four) (no_segment p.at (payload_in p bytes) head old has none)
+    subst (λ k. NoneNext p.at k (payload_in p bytes) (Builds old)) (sym four) (no_segment p.at (payload_in p bytes) head old has none)
 
 -- ---- other records
 
@@ -71,19 +72,19 @@ pub none_reads_of : (p : RecordPlace) (seen : Option (List ℕ)) (old : Ranges) 
 none_reads_of p None old = tt
 none_reads_of p (Some bytes) old = λ h es e next. nothing_read p.payload (shown_len (types_of es) e) old
 
-pub loaded_told : (p : RecordPlace) (seen : Option (List ℕ)) (text : List ℕ) (old new : Built) → IfSome seen (λ bytes. text ≡ take p.length (drop p.payload bytes))
-    → BuildsNext p.at p.kind text old new → BuildsTold p seen old new
-loaded_told p None text old new these builds = tt
-loaded_told p (Some bytes) text old new these builds = subst (λ l. BuildsNext p.at p.kind l old new) these builds
+pub loaded_told : (p : RecordPlace) (seen : Option (List ℕ)) (text : List ℕ) (old new : Keeping) → IfSome seen (λ bytes. text ≡ take p.length (drop p.payload bytes))
+    → KeepsNext p.at p.kind text old new → KeepsTold p seen old new
+loaded_told p None text old new these keeps = tt
+loaded_told p (Some bytes) text old new these keeps = subst (λ l. KeepsNext p.at p.kind l old new) these keeps
 
-pub loaded_not_told : (p : RecordPlace) (seen : Option (List ℕ)) (text : List ℕ) (old : Built) → IfSome seen (λ bytes. text ≡ take p.length (drop p.payload bytes))
+pub loaded_not_told : (p : RecordPlace) (seen : Option (List ℕ)) (text : List ℕ) (old : Keeping) → IfSome seen (λ bytes. text ≡ take p.length (drop p.payload bytes))
     → NoneNext p.at p.kind text old → NoneTold p seen old
 loaded_not_told p None text old these none = tt
 loaded_not_told p (Some bytes) text old these none = subst (λ l. NoneNext p.at p.kind l old) these none
 
-pub other_not_told : (p : RecordPlace) (seen : Option (List ℕ)) (old : Built) → (p.kind < 1) ⊎ (4 < p.kind) → NoneTold p seen old
+pub other_not_told : (p : RecordPlace) (seen : Option (List ℕ)) (old : Keeping) → (p.kind < 1) ⊎ (4 < p.kind) → NoneTold p seen old
 other_not_told p None old other = tt
-other_not_told p (Some bytes) old other = λ h es e next built.
+other_not_told p (Some bytes) old other = λ h es e next was.
     let within = no_entry (types_of es) e p.kind (payload_in p bytes) next.saved in
     elim other as (λ x. ⊥) [
       | inl low ↦ omega (arith, low, within.0)

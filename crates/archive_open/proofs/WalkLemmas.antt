@@ -17,7 +17,8 @@ use Rattle.archive_meaning.proofs.JudgeLemmas.{end_more}
 use Rattle.archive_meaning.proofs.SpellingLemmas.{one_body}
 use Rattle.archive_meaning.proofs.UniqueLemmas.{front_joined, legal_forms, legal_front, stands_begins}
 use Rattle.archive_open.specs.Shown.{IsLastGate, RefusedAt}
-use Rattle.archive_open.specs.StepsNext.{Builds, BuildsNext, Built, IsNext, IsOpening, IsWhole, NoneNext, payload_in}
+use Rattle.archive_open.specs.StepsNext.{IsOpening}
+use Rattle.archive_open.specs.Walk.{IsNext, IsWhole, Keeping, KeepsNext, NoneNext, payload_in}
 
 -- the bytes stand for no journal, and their first damage is not behind this place
 abbrev pub Refuses : ℕ → List ℕ → Type 0
@@ -110,7 +111,7 @@ no_record bytes h es at kind len stood here found =
     let gate = gate_is bytes h es at stood here in
     stood.stands.closed (sym (gate_at bytes at stood.stands.gate stood.stands.rest gate).1 ∙ (gate_at bytes at 1 _ found.spells).1)
 
-module _ (b : Built) (header : Header) (place count : ℕ) (bytes : List ℕ) (o : IsOpening b header place count bytes) where
+module _ (b : Keeping) (header : Header) (place count : ℕ) (bytes : List ℕ) (o : IsOpening b header place count bytes) where
   -- of a journal with as many entries they are all
   at_end : (h : Header) (es : List JournalEntry) → Begins bytes h es → count ≡ length es → place ≡ length (front_of h es)
   at_end h es begins all =
@@ -187,7 +188,7 @@ module _ (b : Built) (header : Header) (place count : ℕ) (bytes : List ℕ) (o
         one = o.one h es begins;
         all = all;
         gate = at_end h es begins all;
-        built = subst (λ l. Builds b h l) (take_all count es (omega (arith, all))) (o.built h es begins (omega (arith, all)));
+        kept = subst (λ l. b h l) (take_all count es (omega (arith, all))) (o.kept h es begins (omega (arith, all)));
       }
 
   -- ---- a record at the place
@@ -208,7 +209,7 @@ module _ (b : Built) (header : Header) (place count : ℕ) (bytes : List ℕ) (o
 
     pub refused_here : NoneNext p.at p.kind (payload_in p bytes) b → Refuses place bytes
     refused_here none = refused
-        (λ h es begins less. none h (take count es) (entry_at es count less).e (next_here h es begins less) (o.built h es begins (omega (arith, less))))
+        (λ h es begins less. none h (take count es) (entry_at es count less).e (next_here h es begins less) (o.kept h es begins (omega (arith, less))))
         (λ h es stood all. let less = goes_on h es stood in omega (arith, all, less))
 
     -- the place behind the entry
@@ -225,15 +226,15 @@ module _ (b : Built) (header : Header) (place count : ℕ) (bytes : List ℕ) (o
         let last : p.payload + p.length ≡ length (front_of h (done ++ has.e ∷ [])) = omega (arith, gate, payload, long, all, size) in
         last ∙ ap (λ l. length (front_of h l)) (sym has.next)
 
-    pub opening_on : (new : Built) → BuildsNext p.at p.kind (payload_in p bytes) b new → IsOpening new header (p.payload + p.length) (suc count) bytes
-    opening_on new builds = record {
+    pub opening_on : (new : Keeping) → KeepsNext p.at p.kind (payload_in p bytes) b new → IsOpening new header (p.payload + p.length) (suc count) bytes
+    opening_on new keeps = record {
       one = o.one;
       past = omega (arith, o.past, here, payload);
       stood = λ h es begins few. place_on h es begins (omega (arith, few));
-      built = λ h es begins few.
+      kept = λ h es begins few.
           let less : count < length es = omega (arith, few) in
-          subst (λ l. Builds new h l) (sym (entry_at es count less).next)
-          (builds h (take count es) (entry_at es count less).e (next_here h es begins less) (o.built h es begins (omega (arith, few))));
+          subst (λ l. new h l) (sym (entry_at es count less).next)
+          (keeps h (take count es) (entry_at es count less).e (next_here h es begins less) (o.kept h es begins (omega (arith, few))));
       behind = λ h es begins few. elim (cases_lt count (length es)) as (λ x. length (front_of h es) ≤ p.payload + p.length) [
         | inl less ↦
             let on = place_on h es begins less in
@@ -257,12 +258,12 @@ same_header bytes g h x es header spells begins =
 front_none : (h : Header) → length (front_of h []) ≡ 32
 front_none h = ap length (append-nil (header_bytes h)) ∙ length-header_bytes h
 
-pub opening_starts : (b : Built) (header : Header) (bytes x : List ℕ) → IsHeader header → bytes ≡ header_bytes header ++ x → Builds b header [] → IsOpening b header 32 0 bytes
-opening_starts b header bytes x is spells built = record {
+pub opening_starts : (b : Keeping) (header : Header) (bytes x : List ℕ) → IsHeader header → bytes ≡ header_bytes header ++ x → b header [] → IsOpening b header 32 0 bytes
+opening_starts b header bytes x is spells kept = record {
   one = λ h es begins. same_header bytes header h x es is spells begins;
   past = omega arith;
   stood = λ h es begins few. sym (front_none h);
-  built = λ h es begins few. subst (λ g. Builds b g []) (sym (same_header bytes header h x es is spells begins)) built;
+  kept = λ h es begins few. subst (λ g. b g []) (sym (same_header bytes header h x es is spells begins)) kept;
   behind = λ h es begins few. elim es as (λ l. length l ≤ 0 → length (front_of h l) ≤ 32) [
     | [] ↦ λ none. omega (arith, front_none h)
     | f ∷ l ↦ λ none. absurd (omega (arith, none))

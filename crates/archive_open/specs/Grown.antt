@@ -8,7 +8,7 @@ use Rattle.archive_open.specs.declared.files.FileEntry.{FileEntry}
 use Rattle.archive_open.specs.declared.grown.Grown.{Grown}
 use Rattle.archive_open.specs.Kept.{Kept}
 use Rattle.archive_open.specs.Shown.{files_of, kept_of}
-use Rattle.archive_open.specs.StepsNext.{IsNext}
+use Rattle.archive_open.specs.Walk.{IsNext}
 
 -- texts and files
 pub record GrownView : Type 0 where

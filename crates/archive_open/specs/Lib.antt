@@ -2,6 +2,7 @@ pub mod Refused
 pub mod Kept
 pub mod Shown
 pub mod Archive
+pub mod Walk
 pub mod StepsNext
 pub mod StepsBuilt
 pub mod StepsFiles

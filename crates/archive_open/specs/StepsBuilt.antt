@@ -1,5 +1,5 @@
 -- What was built of the entries so far.
-use Rattle.archive_open.specs.declared.walk.Opening.{Opening}
+use Rattle.archive_open.specs.declared.opening.Opening.{Opening}
 use Rattle.archive_open.specs.Kept.{Kept}
 use Rattle.archive_open.specs.StepsNext.{Built}
 

@@ -27,9 +27,13 @@ pub struct Grown<K: KeepsTexts> {
     pub files: Vec<FileEntry>,
 }
 
-// Keeps the names of further files, and tells whether the payload has such.
-fn keep_names(alloc: Global, files: &mut Vec<FileEntry>, payload: &[u8]) -> Result<bool, AllocError>
-    ensures kept { IfOk result (λ yes. IsTrue yes → (names : List (List ℕ)) × AreTexts names
+/// Adds files of these names without messages, and tells whether the payload has names of files.
+pub fn add_names(
+    alloc: Global,
+    files: &mut Vec<FileEntry>,
+    payload: &[u8],
+) -> Result<bool, AllocError>
+    ensures added { IfOk result (λ yes. IsTrue yes → (names : List (List ℕ)) × AreTexts names
         × (payload.now ≡ files_payload names)
         × (files.new.items ≡ files.old.items ++ map new_file names)) }
     ensures refused { IfOk result (λ yes. IsFalse yes
@@ -118,7 +122,7 @@ pub fn add_listed<K: KeepsTexts + Drop>(
         → NoneGrows kind payload.now (grown_of K.kept grown.old)) }
 {
     match kind {
-        FILES_KIND => keep_names(alloc, &mut grown.files, payload),
+        FILES_KIND => add_names(alloc, &mut grown.files, payload),
         TYPES_KIND => keep_texts(&mut grown.names, Which::Types, payload),
         WORDS_KIND => keep_texts(&mut grown.names, Which::Words, payload),
         _ => Ok(false),

@@ -1,25 +1,21 @@
 -- How opening by places begins and ends.
-use Rattle.std.proofs.Common.{◌≡◌, ℕ, zero, suc, ◌+◌, ◌-◌, ◌<◌, List, [], ◌∷◌, length, map, take, get_or, set, Option, Some, None, refl, sym, ◌∙◌, ap, subst, arith}
+use Rattle.std.proofs.Common.{◌≡◌, ℕ, zero, suc, ◌+◌, ◌-◌, ◌<◌, List, [], ◌∷◌, length, map, get_or, set, Option, Some, None, refl, sym, ◌∙◌, ap, subst, arith}
 use Rattle.std.specs.List.Sorted.{IsPermutation, IsNonDecreasingBy, SwapsInRange, apply_swaps}
 use Rattle.std.specs.List.{swap}
-use Rattle.std.proofs.lemmas.List.{length-map, map-set, take_all}
+use Rattle.std.proofs.lemmas.List.{length-map, map-set}
 use Rattle.record_format.specs.declared.header.Header.{Header}
 use Rattle.log_seams.specs.Disk.{DiskState, KeepsBytes}
-use Rattle.disk_journal.specs.State.{BeginsWith, IsAtFirst, JournalState}
-use Rattle.archive_meaning.proofs.UniqueLemmas.{stands_begins}
+use Rattle.disk_journal.specs.State.{JournalState}
 use Rattle.archive_open.specs.declared.segments.SegmentPlace.{SegmentPlace}
-use Rattle.archive_open.specs.Kept.{Kept, none_of}
-use Rattle.archive_open.specs.Shown.{IsLastGate, order_of, places_of}
-use Rattle.archive_open.specs.StepsNext.{AreWhole, Built, EndsWith, IsBuilt, LastGateTold, Looks}
-use Rattle.archive_open.proofs.OpenLemmas.{goes_first}
+use Rattle.archive_open.specs.Shown.{IsLastGate, Looks, order_of, places_of}
+use Rattle.archive_open.specs.Walk.{AreWhole, EndsWith, Keeping, LastGateTold}
 use Rattle.word_places.specs.declared.place.WordsPlace.{WordsPlace}
 use Rattle.archive_places.specs.declared.front.SegmentFront.{SegmentFront}
 use Rattle.archive_places.specs.declared.places.Places.{Places}
 use Rattle.archive_places.specs.declared.opening.Opening.{Opening}
 use Rattle.archive_places.specs.Fronts.{front_of_place, order_of_front}
 use Rattle.archive_places.specs.Opened.{EndsAtGate, OpensPlaces}
-use Rattle.archive_places.specs.StepsGoing.{Going, GoneTo, RunOn, Shows, WordsTold}
-use Rattle.archive_places.specs.Words.{words_places_of}
+use Rattle.archive_places.specs.StepsPlaced.{IsPlaced, Placing, PlacesOf, RunOn, placing_of}
 
 -- ---- segments in order
 
@@ -65,20 +61,21 @@ has_order places fronts same sorted =
 
 -- ---- the beginning
 
-pub shows_first : (o : Opening) (b : Built) (h : Header) → b.kept ≡ none_of h → b.files ≡ [] → b.segments ≡ [] → o.types ≡ [] → o.types_limit ≡ h.types_limit → o.words_count ≡ 0
-    → o.words_limit ≡ h.words_limit → o.files.items ≡ [] → o.segments.items ≡ [] → Shows o b
-shows_first o b h kept no_files no_segments types types_limit words words_limit files segments = record {
-  types = types ∙ ap (λ (k : Kept). k.types) (sym kept);
-  types_limit = types_limit ∙ ap (λ (k : Kept). k.types_limit) (sym kept);
-  words = words ∙ ap (λ (k : Kept). length k.words) (sym kept);
-  words_limit = words_limit ∙ ap (λ (k : Kept). k.words_limit) (sym kept);
-  files = files ∙ sym no_files;
-  segments = segments ∙ ap (map front_of_place) (sym no_segments);
-}
+pub none_placed : (p : Placing) (h : Header) → p.types ≡ [] → p.types_limit ≡ h.types_limit → p.words ≡ [] → p.words_count ≡ 0 → p.words_limit ≡ h.words_limit → p.files ≡ [] → p.segments ≡ []
+    → PlacesOf p h []
+none_placed p h types types_limit words words_count words_limit files segments held run =
+    subst (λ x. IsPlaced p h [] x) (sym run) (record {
+      types = types;
+      types_limit = types_limit;
+      words = words;
+      words_count = words_count;
+      words_limit = words_limit;
+      files = files;
+      segments = segments;
+    })
 
-pub words_told_first : (seen : Option (List ℕ)) (count : ℕ) (places : List WordsPlace) → count ≡ 0 → places ≡ [] → WordsTold seen count places
-words_told_first None count places none empty = tt
-words_told_first (Some bytes) count places none empty = λ h es begins few. empty ∙ ap (λ (n : ℕ). words_places_of (take n es)) (sym none)
+pub none_in_run : (words : List WordsPlace) (count : ℕ) → words ≡ [] → count ≡ 0 → RunOn 0 words count
+none_in_run words count none zero_of = subst (λ (ps : List WordsPlace). RunOn 0 ps count) (sym none) (sym zero_of)
 
 -- ---- the end
 
@@ -93,33 +90,29 @@ pub record IsFound (a : Places) (o : Opening) (h : Header) (place count : ℕ) :
   pub entries : a.entries ≡ count
   pub end : a.end ≡ place + 1
 
-opens_told : (seen : Option (List ℕ)) (b : Built) (o : Opening) (header : Header) (place count : ℕ) (a : Places) → AreWhole b header place count seen → Shows o b → WordsTold seen count o.words.items
-    → IsFound a o header place count → OpensPlaces seen a
-opens_told None b o header place count a whole shows words is = tt
-opens_told (Some bytes) b o header place count a whole shows words is = λ h es stood.
+opens_told : (seen : Option (List ℕ)) (o : Opening) (header : Header) (place count : ℕ) (a : Places) → AreWhole (PlacesOf (placing_of o)) header place count seen → IsFound a o header place count
+    → OpensPlaces seen a
+opens_told None o header place count a whole is = tt
+opens_told (Some bytes) o header place count a whole is = λ h es stood.
     let w = whole h es stood in
-    let built : IsBuilt b h es stood.legal.held = w.built stood.legal.held stood.legal.run in
-    let all : count ≡ length es = w.all in
-    let told = words h es (stands_begins bytes h es stood) (omega (arith, all)) in
-    let fronts : o.segments.items ≡ map front_of_place (places_of es) = shows.segments ∙ ap (map front_of_place) built.segments in
-    let order = has_order (places_of es) a.segments (subst (λ (l : List SegmentFront). IsPermutation l a.segments) fronts is.same) is.sorted in
+    let placed : IsPlaced (placing_of o) h es stood.legal.held = w.kept stood.legal.held stood.legal.run in
+    let order = has_order (places_of es) a.segments (subst (λ (l : List SegmentFront). IsPermutation l a.segments) placed.segments is.same) is.sorted in
     record {
       header = is.header ∙ sym w.one;
-      types = is.types ∙ shows.types ∙ ap (λ (k : Kept). k.types) built.kept;
-      words = is.words ∙ told ∙ ap words_places_of (take_all count es (omega (arith, all)));
-      files = is.files ∙ shows.files ∙ built.files;
+      types = is.types ∙ placed.types;
+      words = is.words ∙ placed.words;
+      files = is.files ∙ placed.files;
       ordered = order.ordered;
       are = order.are;
       sorted = order.sorted;
       segments = order.fronts_are;
-      entries = is.entries ∙ all;
+      entries = is.entries ∙ w.all;
       end = is.end ∙ ap (λ n. n + 1) w.gate;
     }
 
-pub opens : (o : Opening) (old new : JournalState) (a : Places) → Looks old new → GoneTo o new → IsFound a o old.header new.place new.count → OpensPlaces old.disk.seen a
-opens o old new a looks gone is =
-    opens_told old.disk.seen gone.b o new.header new.place new.count a
-    (subst (λ s. AreWhole gone.b new.header new.place new.count s) looks.rests.seen gone.ends.whole) gone.shows (subst (λ s. WordsTold s new.count o.words.items) looks.rests.seen gone.words)
+pub opens : (o : Opening) (old new : JournalState) (a : Places) → Looks old new → EndsWith (PlacesOf (placing_of o)) new → IsFound a o old.header new.place new.count → OpensPlaces old.disk.seen a
+opens o old new a looks ends is =
+    opens_told old.disk.seen o new.header new.place new.count a (subst (λ s. AreWhole (PlacesOf (placing_of o)) new.header new.place new.count s) looks.rests.seen ends.whole)
     (subst (λ (h : Header). IsFound a o h new.place new.count) (sym looks.header) is)
 
 last_gate_told : (seen : Option (List ℕ)) (place : ℕ) (a : Places) → LastGateTold place seen → a.end ≡ place + 1 → EndsAtGate seen a
@@ -128,22 +121,9 @@ last_gate_told (Some bytes) place a last end =
     let same : place ≡ a.end - 1 = omega (arith, end) in
     subst (λ n. IsLastGate n bytes) same last
 
-pub has_last_gate : (b : Built) (old new : JournalState) (a : Places) → Looks old new → EndsWith b new → a.end ≡ new.place + 1 → EndsAtGate old.disk.seen a
+pub has_last_gate : (b : Keeping) (old new : JournalState) (a : Places) → Looks old new → EndsWith b new → a.end ≡ new.place + 1 → EndsAtGate old.disk.seen a
 has_last_gate b old new a looks ends end =
     last_gate_told old.disk.seen new.place a (subst (λ s. LastGateTold new.place s) looks.rests.seen ends.last) end
-
--- nothing was kept yet
-pub going_first : (o : Opening) (j : JournalState) → IsAtFirst j → BeginsWith j.header j.disk → o.types ≡ [] → o.types_limit ≡ j.header.types_limit → o.words.items ≡ [] → o.words_count ≡ 0
-    → o.words_limit ≡ j.header.words_limit → o.files.items ≡ [] → o.segments.items ≡ [] → Going o j
-going_first o j first begins types types_limit words words_count words_limit files segments =
-    let b : Built = record { kept = none_of j.header; files = []; segments = [] } in
-    record {
-      b = b;
-      shows = shows_first o b j.header refl refl refl types types_limit words_count words_limit files segments;
-      goes = goes_first b j first begins refl refl refl;
-      words = words_told_first j.disk.seen j.count o.words.items first.count words;
-      order = subst (λ (ps : List WordsPlace). RunOn 0 ps o.words_count) (sym words) (sym words_count);
-    }
 
 -- what is found of a disk that was only read
 pub opens_before : (old mid : DiskState) (a : Places) → KeepsBytes old mid → OpensPlaces mid.seen a → OpensPlaces old.seen a

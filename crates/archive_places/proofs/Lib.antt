@@ -1,6 +1,5 @@
 pub mod WordLemmas
-pub mod FrontLemmas
-pub mod GoingLemmas
+pub mod PlacedLemmas
 pub mod EndLemmas
 pub mod TypeLemmas
 pub mod HeadLemmas

@@ -20,7 +20,7 @@ use Rattle.word_places.specs.declared.place.WordsPlace.{WordsPlace}
 use Rattle.word_places.specs.Places.{AreInOrder, AreWords, Spells}
 use Rattle.archive_places.specs.Words.{words_from, words_placed, words_places_of}
 use Rattle.archive_places.specs.Laws.{WordsStand}
-use Rattle.archive_places.specs.StepsGoing.{RunOn}
+use Rattle.archive_places.specs.StepsPlaced.{RunOn}
 
 -- ---- one entry more
 

@@ -3,5 +3,5 @@ pub mod Fronts
 pub mod Heads
 pub mod Opened
 pub mod Laws
-pub mod StepsGoing
+pub mod StepsPlaced
 pub mod StepsHeads

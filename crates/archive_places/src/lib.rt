@@ -6,13 +6,13 @@
 
 mod front;
 mod heads;
+mod keeping;
 mod laws;
 mod open;
 mod opening;
 mod places;
-mod records;
 mod segments;
-mod walk;
+mod types;
 
 pub use front::{FrontList, SegmentFront};
 pub use heads::load_segment;

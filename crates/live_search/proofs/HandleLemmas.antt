@@ -21,7 +21,7 @@ use Rattle.archive_open.specs.Grown.{GrownView, Grows, GrowsNext, IsGrown, NoneG
 use Rattle.archive_open.specs.Kept.{Kept}
 use Rattle.archive_open.specs.Shown.{files_of, head_in, kept_of}
 use Rattle.archive_open.specs.StepsFiles.{no_file}
-use Rattle.archive_open.specs.StepsNext.{IsNext}
+use Rattle.archive_open.specs.Walk.{IsNext}
 use Rattle.archive_open.proofs.FilesLemmas.{entries_from}
 use Rattle.archive_open.proofs.NextLemmas.{is_segment, next_form, own_follows}
 use Rattle.disk_seal.specs.declared.found.Found.{Found}

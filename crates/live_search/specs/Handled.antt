@@ -7,7 +7,7 @@ use Rattle.archive_meaning.specs.Held.{Held, nothing_held}
 use Rattle.archive_meaning.specs.Legal.{Accepts, Run}
 use Rattle.archive_open.specs.Grown.{GrownView, IsGrown, grown_of}
 use Rattle.archive_open.specs.Kept.{Kept}
-use Rattle.archive_open.specs.StepsNext.{IsNext}
+use Rattle.archive_open.specs.Walk.{IsNext}
 use Rattle.disk_seal.specs.declared.found.Found.{Found}
 use Rattle.pair_sieve.specs.Sieve.{Knows, SieveView, Tells}
 use Rattle.printed_lines.specs.Lines.{Placed, lines_of}
