@@ -308,14 +308,14 @@ lacks_by f test row bits all has brings more stamp lacks = record {
 pub stamp_more : (tokens : List Token) (s : List ℕ) (bits more : ℕ) → StampMarks tokens s more → StampMarks tokens s (bit_or bits more)
 stamp_more tokens s bits more marks j d lt m = has_through (bit_or bits more) more _ (has_right bits more) (marks j d lt m)
 
-pub stamp_brings : (tokens looked : List Token) (may bits brought pattern : ℕ) (moment : ℤ) (stamps : List ℕ) → looked ≡ tokens
-    → (AreStamps tokens stamps → (s : List ℕ) → HasStampText pattern moment s → StampMarks tokens s may)
+pub stamp_brings : (tokens looked : List Token) (may bits brought pattern : ℕ) (moment : ℤ) (s : List ℕ) → looked ≡ tokens
+    → (HasStampText pattern moment s → StampMarks tokens s may)
     → ((s : List ℕ) → (HasStampText pattern moment s → StampMarks looked s may) → HasStampText pattern moment s → StampMarks looked s brought)
-    → AreStamps tokens stamps → (s : List ℕ) → HasStampText pattern moment s → StampMarks tokens s (bit_or bits brought)
-stamp_brings tokens looked may bits brought pattern moment stamps same marks tells are s stamped =
+    → HasStampText pattern moment s → StampMarks tokens s (bit_or bits brought)
+stamp_brings tokens looked may bits brought pattern moment s same marks tells stamped =
     stamp_more tokens s bits brought
     (subst (λ (l : List Token). StampMarks l s brought) same
-    (tells s (λ h. subst (λ (l : List Token). StampMarks l s may) (sym same) (marks are s h)) stamped))
+    (tells s (λ h. subst (λ (l : List Token). StampMarks l s may) (sym same) (marks h)) stamped))
 
 -- ---- what a row lacks without its numbers and its stamp
 

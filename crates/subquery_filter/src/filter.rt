@@ -10,7 +10,7 @@ ghost use Rattle.query_plan.specs.Pieces.{wide_pieces};
 ghost use Rattle.query_plan.specs.declared.pieces.Piece.{Piece};
 ghost use Rattle.subquery_filter.specs.declared.filter.Filter.{Filter};
 ghost use Rattle.subquery_filter.specs.declared.slots.Slot.{Slot};
-ghost use Rattle.subquery_filter.specs.Filter.{AreCoded, AreMarks, AreStamps, AreTold, AsksTypes, Has, HasNoMatch, IsFilter, IsRowVerdict, IsTold, LacksAll, MarksVariable, StampMarks, TellsSmall, others_of};
+ghost use Rattle.subquery_filter.specs.Filter.{AreCoded, AreMarks, AreTold, AsksTypes, Has, HasNoMatch, IsFilter, IsRowVerdict, IsTold, LacksAll, MarksVariable, StampMarks, TellsSmall, others_of};
 ghost use Rattle.subquery_filter.specs.declared.verdicts.Verdict.TheVariants.{Certain};
 ghost use Rattle.subquery_filter.specs.Found.{HaveAll};
 ghost use Rattle.subquery_filter.specs.Page.{AreStampBits, IsPage};
@@ -20,7 +20,7 @@ use crate::alone::{run_bits, runs_of};
 use crate::bits::{any_of, has, mark_at};
 use crate::laws::{rows_bring_chunks, rows_bring_runs, verdicts_hold};
 use crate::marks::WordMarks;
-use crate::needing::{Need, open_bits};
+use crate::needing::{Need, firm_bits, open_bits};
 use crate::needles::{lists_with, texts_of};
 use crate::numbers::{decimal_bits, kind_bits, whole_bits};
 use crate::rare::longest_rare;
@@ -270,6 +270,7 @@ impl Filter {
             lead: longest_rare(looked, others),
             longest: Finder::new(longest.as_slice()),
             tokens: all_bits(looked),
+            firm: firm_bits(looked) & others,
             runs: run_bits(runs),
             stamped: self.run_stamped,
         };
@@ -473,7 +474,7 @@ impl Filter {
 
     /// What a stamp of a page may bring, which has this pattern and this moment.
     #[inline]
-    pub(crate) fn stamp_at(&self, pattern: u8, moment: i64, page: &PageTests) -> StampBits
+    fn stamp_at(&self, pattern: u8, moment: i64, page: &PageTests) -> StampBits
         ensures { IsPage self.now page.now → AreStampBits self.now pattern moment result }
     {
         let number = u64::from(pattern);
@@ -488,11 +489,10 @@ impl Filter {
     /// are: so neither are looked at where a token stands in no word of it that only words may
     /// bring.
     #[inline]
-    fn lacks_words(&self, test: &TypeTest, row: RowRef<'_>, page: &PageTests) -> bool
-        ensures { IsTrue result → IsPage self.now page.now
+    fn lacks_words(&self, test: &TypeTest, row: RowRef<'_>, may: StampBits) -> bool
+        ensures { IsTrue result → AreStampBits self.now row.entry.pattern row.entry.moment may
             → Lacks self.now test.now (row_of row.entry) }
     {
-        let may = self.stamp_at(row.pattern, row.moment, page);
         let others = test.has | self.numbers | may.tokens;
         if has(others, self.wanted) {
             return false;
@@ -501,18 +501,18 @@ impl Filter {
         !has(all, self.wanted)
     }
 
-    /// These bits, and those that a row brings by its stamp, which is printed only where stamps of
-    /// its pattern on the page may bring all that is missing.
+    /// These bits, and those that a row brings by its stamp, which is printed only where what it may
+    /// bring is all that is missing.
     #[inline]
-    fn with_stamp(&self, row: RowRef<'_>, bits: u8, page: &mut PageTests) -> u8
+    fn with_stamp(&self, row: RowRef<'_>, bits: u8, may: u8, page: &mut PageTests) -> u8
         ensures more { Has result bits }
-        ensures stamp { IsPage self.now page.old
-            → AreStamps self.now.tokens.items self.now.stamps.items → (s : List ℕ)
+        ensures stamp { (s : List ℕ)
+            → (HasStampText row.entry.pattern row.entry.moment s
+            → StampMarks self.now.tokens.items s may)
             → HasStampText row.entry.pattern row.entry.moment s
             → StampMarks self.now.tokens.items s result }
         ensures kept { page.new.spans ≡ page.old.spans }
     {
-        let may = self.stamp_at(row.pattern, row.moment, page).tokens;
         if !has(bits | may, self.wanted) {
             return bits | may;
         }
@@ -528,19 +528,19 @@ impl Filter {
     /// Whether a row of a log type does not bring all tokens: by its constant bytes, its variables,
     /// and at last by its stamp.
     #[inline]
-    fn lacks(&self, test: &TypeTest, row: RowRef<'_>, page: &mut PageTests) -> bool
-        ensures lacks { IsTrue result → IsPage self.now page.old
+    fn lacks(&self, test: &TypeTest, row: RowRef<'_>, may: StampBits, page: &mut PageTests) -> bool
+        ensures lacks { IsTrue result → AreStampBits self.now row.entry.pattern row.entry.moment may
             → Lacks self.now test.now (row_of row.entry) }
         ensures kept { page.new.spans ≡ page.old.spans }
     {
-        if self.lacks_words(test, row, page) {
+        if self.lacks_words(test, row, may) {
             return true;
         }
         let bits = self.with_variables(test, row.words, test.has);
         if has(bits, self.wanted) {
             return false;
         }
-        let all = self.with_stamp(row, bits, page);
+        let all = self.with_stamp(row, bits, may.tokens, page);
         !has(all, self.wanted)
     }
 
@@ -578,8 +578,8 @@ impl Filter {
     /// all stamps of the page bring the tokens, neither its variables nor its stamp are looked at;
     /// and where its log type brings them, its variables are not.
     #[inline]
-    fn lacks_tokens(&self, row: RowRef<'_>, page: &mut PageTests) -> bool
-        ensures lacks { IsTrue result → IsPage self.now page.old
+    fn lacks_tokens(&self, row: RowRef<'_>, may: StampBits, page: &mut PageTests) -> bool
+        ensures lacks { IsTrue result → AreStampBits self.now row.entry.pattern row.entry.moment may
             → LacksStamp self.now (row_of row.entry) ⊎ LacksTokens self.now (row_of row.entry) }
         ensures kept { page.new.spans ≡ page.old.spans }
     {
@@ -594,17 +594,15 @@ impl Filter {
             return self.lacks_own_run(row, page);
         }
         !has(test.has | shared, self.wanted)
-            && (self.lacks_hits(&test, row, page) || self.lacks(&test, row, page))
+            && (self.lacks_hits(&test, row, may) || self.lacks(&test, row, may, page))
     }
 
-    /// Whether a run that the row's log type leaves to stamps stands in no stamp of the row's
-    /// pattern, of the moments of the page.
+    /// Whether a run that the row's log type leaves to stamps is none that its stamp may have.
     #[inline]
-    fn lacks_runs(&self, row: RowRef<'_>, page: &PageTests) -> bool
-        ensures { IsTrue result → IsPage self.now page.now
+    fn lacks_runs(&self, row: RowRef<'_>, may: StampBits) -> bool
+        ensures { IsTrue result → AreStampBits self.now row.entry.pattern row.entry.moment may
             → LacksStamp self.now (row_of row.entry) }
     {
-        let may = self.stamp_at(row.pattern, row.moment, page);
         !has(may.runs, self.alone_at(u64::from(row.log_type)))
     }
 
@@ -615,7 +613,8 @@ impl Filter {
             → LacksStamp self.now (row_of row.entry) ⊎ LacksTokens self.now (row_of row.entry) }
         ensures kept { page.new.spans ≡ page.old.spans }
     {
-        self.lacks_runs(row, page) || self.lacks_tokens(row, page)
+        let may = self.stamp_at(row.pattern, row.moment, page);
+        self.lacks_runs(row, may) || self.lacks_tokens(row, may, page)
     }
 
     /// What is known of a row: whether the pattern matches its message, or cannot. Takes no memory.

@@ -5,7 +5,7 @@ ghost use Rattle.std.specs.Int.{cast_signed, w64};
 ghost use Rattle.column_store.specs.Row.{row_of};
 ghost use Rattle.column_store.specs.declared.row.Row.{Row};
 ghost use Rattle.subquery_filter.specs.Filter.{AreNeeds, AreOpenBits, CountsNot, IsNeed, IsNoCode, IsOpenNumber, IsOpenWord, NoneCounts, Rejects};
-ghost use Rattle.subquery_filter.specs.Page.{IsPage};
+ghost use Rattle.subquery_filter.specs.Page.{AreStampBits};
 ghost use Rattle.subquery_filter.specs.StepsFilter.{HasEach, LacksHits};
 ghost use Rattle.subquery_filter.specs.declared.verdicts.Verdict.{Verdict};
 
@@ -13,7 +13,7 @@ use crate::bits::has;
 use crate::filter::Filter;
 use crate::laws::{rows_bring_chunks, rows_bring_runs, verdicts_hold};
 use crate::marks::WordMarks;
-use crate::shared::PageTests;
+use crate::shared::StampBits;
 use crate::slots::TypeTest;
 use crate::token::Token;
 use crate::verdicts::Verdict;
@@ -50,6 +50,17 @@ pub(crate) fn open_bits(tokens: &[Token]) -> u8
     let mut bits = 0;
     for token in tokens {
         bits |= open_bit(token);
+    }
+    bits
+}
+
+/// The bits of the tokens that are closed variables, or may not stand in the texts of numbers.
+pub(crate) fn firm_bits(tokens: &[Token]) -> u8 {
+    let mut bits = 0;
+    for token in tokens {
+        if !token.numeric {
+            bits |= token.bit;
+        }
     }
     bits
 }
@@ -193,11 +204,10 @@ impl Filter {
     /// Whether a row of a log type does not bring all tokens, as its words tell without a look at its
     /// slots: what numbers may bring by chance, and its stamp, do not suffice.
     #[inline]
-    pub(crate) fn lacks_hits(&self, test: &TypeTest, row: RowRef<'_>, page: &PageTests) -> bool
-        ensures { IsTrue result → IsPage self.now page.now
+    pub(crate) fn lacks_hits(&self, test: &TypeTest, row: RowRef<'_>, may: StampBits) -> bool
+        ensures { IsTrue result → AreStampBits self.now row.entry.pattern row.entry.moment may
             → LacksHits self.now test.now (row_of row.entry) }
     {
-        let may = self.stamp_at(row.pattern, row.moment, page);
         if has(test.has | self.numeric | may.tokens, self.wanted) {
             return false;
         }

@@ -1,5 +1,5 @@
 //! The slots of log types that may bring tokens.
-ghost use Rattle.std.specs.Prelude.{◌≡◌, ◌≢◌, ◌<◌, ◌≤◌, ℕ, List, [], false, IfOk, IsFalse, IsTrue, OnOk, Some, length, slice_get};
+ghost use Rattle.std.specs.Prelude.{◌≡◌, ◌≢◌, ◌<◌, ◌≤◌, ℕ, List, [], false, IfOk, IfSome, IsFalse, IsTrue, OnOk, Some, length, slice_get};
 ghost use Rattle.query_plan.specs.declared.pieces.Piece.{Piece};
 ghost use Rattle.subquery_filter.specs.declared.token.Token.{Token};
 ghost use Rattle.logtype_text.specs.declared.symbols.Kind.{Kind};
@@ -44,6 +44,9 @@ pub(crate) struct Question<'a> {
     pub(crate) longest: Finder<'a>,
     /// The bits of all tokens.
     pub(crate) tokens: u8,
+    /// The bits of the firm ones: they stand in a number only where they are all of it. Those that
+    /// rows may bring only by constant bytes are left out.
+    pub(crate) firm: u8,
     /// The bits of all runs of the pattern, and of those that some stamp may have.
     pub(crate) runs: u8,
     pub(crate) stamped: u8,
@@ -70,6 +73,13 @@ pub(crate) struct Sums {
 /// words. The log types that most messages have come first.
 pub(crate) const MOST_SLOTS: usize = 1 << 20;
 
+/// How many log types are taken to have most messages. Of the others less is asked.
+const COMMON_TYPES: u32 = 4096;
+
+/// A log type that few messages have is told by the words of its rows where its constant bytes lack
+/// so many firm tokens. Fewer leave too many rows.
+const LEAST_FIRM: u32 = 3;
+
 /// No slot brings a bit.
 const NO_SUMS: Sums = Sums {
     numbers: 0,
@@ -95,6 +105,14 @@ impl Question<'_> {
     #[inline]
     fn is_for_stamps(&self, alone: u8) -> bool {
         !has(self.stamped, alone) || (alone != 0 && has(alone, self.runs))
+    }
+
+    /// Whether less may be asked of log types that few messages have: stamps may have all runs, so
+    /// that no log type is rejected by those that it leaves to them, and there are so many firm
+    /// tokens.
+    #[inline]
+    fn spares_rare(&self) -> bool {
+        has(self.stamped, self.runs) && self.firm.count_ones() >= LEAST_FIRM
     }
 
     /// Whether a log type whose constant bytes bring these bits may be certain: they bring all
@@ -269,11 +287,35 @@ fn unlisted_test(kinds: &KindBits, known: u8, first: usize) -> TypeTest
     }
 }
 
-/// The bits of the runs that a log type leaves to stamps, where it does not lack a token.
-fn left_to_stamps(runs: &[Run], lacks: bool, text: &[u8]) -> u8
+/// What is known of a log type that few messages have, where its constant bytes lack so many firm
+/// tokens. The other tokens are taken to stand there, and neither its slots nor its runs are asked: a
+/// row of it is told by the words that have those tokens.
+fn rare_test(
+    tokens: &[Token],
+    question: &Question<'_>,
+    number: u32,
+    lacks: bool,
+    text: &[u8],
+) -> Option<TypeTest>
+    ensures { IfSome result (λ test. (plan : List Piece) (slots : List Slot)
+        → AreKindBits tokens.now question.now.kinds
+        → IsTest plan tokens.now question.now.others slots text.now test) }
+{
+    if lacks || number < COMMON_TYPES || !question.spares_rare() {
+        return None;
+    }
+    let known = gifts_of(tokens, question.firm, text);
+    if (question.firm & !known).count_ones() < LEAST_FIRM {
+        return None;
+    }
+    Some(unlisted_test(&question.kinds, known, 0))
+}
+
+/// The bits of the runs that a log type leaves to stamps, where these are asked.
+fn left_to_stamps(runs: &[Run], known: bool, text: &[u8]) -> u8
     ensures { IsAlone runs.now text.now result }
 {
-    if lacks {
+    if known {
         return 0;
     }
     alone_of(runs, text)
@@ -323,11 +365,11 @@ fn test_by_slots(
     })
 }
 
-/// What is known of a log type with this text, which is told whether it lacks a token, and by the
-/// bits of the runs that it leaves to stamps.
+/// What is known of a log type with this text, which is told whether it lacks a token, by what is
+/// known of it as a rare one, and by the bits of the runs that it leaves to stamps.
 ///
-/// Most log types of a long log lack a token, or leave all runs to stamps: their slots are not
-/// looked at.
+/// Most log types of a long log lack a token, are rare, or leave all runs to stamps: their slots are
+/// not looked at.
 fn test_of(
     plan: &Plan,
     tokens: &[Token],
@@ -335,9 +377,13 @@ fn test_of(
     slots: &mut Vec<Slot>,
     text: &[u8],
     lacks: bool,
+    rare: Option<TypeTest>,
     alone: u8,
 ) -> Result<TypeTest, AllocError>
-    requires { IsTrue lacks → LacksText tokens.now question.now.others text.now }
+    requires lacks { IsTrue lacks → LacksText tokens.now question.now.others text.now }
+    requires rare { IfSome rare (λ test. (plan : List Piece) (slots : List Slot)
+        → AreKindBits tokens.now question.now.kinds
+        → IsTest plan tokens.now question.now.others slots text.now test) }
     ensures test { IfOk result (λ test. HasAll tokens.now question.now.tokens
         → AreKindBits tokens.now question.now.kinds
         → IsTest plan.now tokens.now question.now.others slots.new.items text.now test) }
@@ -346,6 +392,9 @@ fn test_of(
     let first = slots.len();
     if lacks {
         return Ok(closed_test(Verdict::Rejected, first));
+    }
+    if let Some(test) = rare {
+        return Ok(test);
     }
     if question.is_for_stamps(alone) {
         return Ok(passed_test(question.tokens, first));
@@ -378,8 +427,9 @@ pub(crate) fn test_types<N: Names>(
             return Ok(());
         };
         let lacks = lacks_rare(tokens, question.lead, question.others, text);
-        let bits = left_to_stamps(runs, lacks, text);
-        let test = test_of(plan, tokens, question, slots, text, lacks, bits)?;
+        let rare = rare_test(tokens, question, number, lacks, text);
+        let bits = left_to_stamps(runs, lacks || rare.is_some(), text);
+        let test = test_of(plan, tokens, question, slots, text, lacks, rare, bits)?;
         tests.push(test)?;
         alone.push(bits)?;
     }

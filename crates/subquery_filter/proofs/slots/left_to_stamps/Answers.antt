@@ -1,5 +1,5 @@
 use Rattle.subquery_filter.proofs.BitLemmas.{has_none}
 use Rattle.subquery_filter.proofs.slots.left_to_stamps.Goals as goal
 
-pub returns-then-lacks : goal.returns-then-lacks
-returns-then-lacks c = λ may each. has_none may
+pub returns-then-known : goal.returns-then-known
+returns-then-known c = λ may each. has_none may

@@ -5,7 +5,10 @@ use Rattle.subquery_filter.proofs.slots.test_of.Goals as goal
 
 pub returns-then-lacks-clause-test : goal.returns-then-lacks-clause-test
 returns-then-lacks-clause-test c = λ all kinds.
-    closed_is c.args.plan.now c.args.tokens.now c.args.question.now.others c.args.slots.now.items c.args.text.now c.closed_test.result Rejected c.closed_test.ensures (λ e. cc (e)) (inr (c.requires c.if-lacks.true))
+    closed_is c.args.plan.now c.args.tokens.now c.args.question.now.others c.args.slots.now.items c.args.text.now c.closed_test.result Rejected c.closed_test.ensures (λ e. cc (e)) (inr (c.requires.lacks c.if-lacks.true))
+
+pub returns-in-Some-clause-test : goal.returns-in-Some-clause-test
+returns-in-Some-clause-test c = λ all kinds. (rw (c.in-Some.is) at c.requires.rare) c.args.plan.now c.args.slots.now.items kinds
 
 pub returns-then-is_for_stamps-clause-test : goal.returns-then-is_for_stamps-clause-test
 returns-then-is_for_stamps-clause-test c = λ all kinds. c.passed_test.ensures c.args.plan.now c.args.tokens.now c.args.question.now.others c.args.slots.now.items c.args.text.now all
