@@ -1,16 +1,10 @@
 -- What is read of a disk for a page: columns of its segment, and words that its rows name.
-use Rattle.std.specs.Prelude.{◌≡◌, ◌⊎◌, ◌≤◌, ◌+◌, ℕ, List, ◌++◌, option_map, All}
-use Rattle.log_seams.specs.Disk.{DiskState, Rests}
+use Rattle.std.specs.Prelude.{◌⊎◌, ◌≤◌, ◌+◌, ℕ}
+use Rattle.log_seams.specs.Disk.{DiskState}
+pub use Rattle.log_seams.specs.Disk.{ReadsSuch}
 use Rattle.segment_pages.specs.Paged.{Paged, columns_size}
 use Rattle.word_places.specs.Reads.{IsOfWords}
 use Rattle.search_walk.specs.Held.{Named}
-
--- the disk was only read, and each range that was read since has P
-pub record ReadsSuch (P : ℕ × ℕ → Type 0) (old new : DiskState) : Type 0 where
-  pub rests : Rests old new
-  pub more : List (ℕ × ℕ)
-  pub added : new.ranges ≡ option_map (λ ranges. ranges ++ more) old.ranges
-  pub each : All P more
 
 -- a range lies in the columns of the segment, or in a record of words
 abbrev pub IsOfPage : Named → Paged → ℕ × ℕ → Type 0
