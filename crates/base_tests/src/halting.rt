@@ -117,6 +117,13 @@ impl OffsetFile for Halting<'_> {
         Ok(())
     }
 
+    fn again(&self) -> io::Result<Self> {
+        let mut again = Halting::new(self.bytes.try_clone()?, self.fails, self.trace);
+        again.number = self.number;
+        again.lock_taken = self.lock_taken;
+        Ok(again)
+    }
+
     fn len(&mut self) -> io::Result<u64> {
         note(self.trace, 6);
         Ok(self.bytes.len() as u64)

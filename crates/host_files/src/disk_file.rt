@@ -1,13 +1,15 @@
 //! A file as a disk. It tells no content, and counts one fault for each call that failed.
 ghost use Rattle.std.specs.Prelude.{◌≡◌, ◌≤◌, ◌+◌, ◌^◌, ◌↔◌, ◌⊎◌, length, None, IfOk, IsTrue};
 ghost use Rattle.std.specs.IoError.{error_kind};
+ghost use Rattle.host_files.specs.Untold.{untold};
 
-use crate::faults::counted;
+use crate::faults::{add_faults, counted};
 use crate::file_id::FileId;
+use crate::file_part::FilePart;
 use crate::locked_file::LockedFile;
 use crate::offsets::read_full;
 use crate::place::{OffsetFile, Place};
-use log_seams::{Disk, Failed};
+use log_seams::{Disk, Failed, SharedDisk};
 use std::io::{self, ErrorKind};
 
 /// What is known of the file of a disk.
@@ -40,7 +42,7 @@ fn hold<P: Place>(place: &P) -> io::Result<Held<P::File>> {
 }
 
 /// The failure of a call that the file was not held for.
-fn not_held() -> io::Error {
+pub(crate) fn not_held() -> io::Error {
     ErrorKind::PermissionDenied.into()
 }
 
@@ -73,6 +75,17 @@ impl<P: Place> PlacedFile<P, P::File> {
             self.held = Held::Reading(self.place.open_to_read()?);
         }
         Ok(())
+    }
+
+    /// Another handle of the file, which only reads, and `None` where no file is there.
+    fn again(&mut self) -> io::Result<Option<P::File>> {
+        self.find()?;
+        match &self.held {
+            Held::Reading(Some(file)) => Ok(Some(file.again()?)),
+            Held::Locked(locked) => Ok(Some(locked.again()?)),
+            Held::Reading(None) | Held::Absent => Ok(None),
+            Held::Refused => Err(not_held()),
+        }
     }
 
     fn len(&mut self) -> io::Result<u64> {
@@ -181,14 +194,7 @@ impl<P: Place> DiskFile<P, P::File> {
 }
 
 impl<P: Place> Disk for DiskFile<P, P::File> {
-    ghost state = { λ d. record {
-      seen = None;
-      images = λ _. Unit {0};
-      clock = 0;
-      since = λ _ _. Unit {0};
-      ranges = None;
-      faults = d.faults;
-    } };
+    ghost state = { λ d. untold d.faults };
 
     fn len(&mut self) -> Result<u64, Failed> {
         counted(&mut self.faults, self.file.len())
@@ -216,4 +222,22 @@ impl<P: Place> Disk for DiskFile<P, P::File> {
       only_now = λ _ _. tt;
       wider = λ _ _ _ _ _. tt;
     } };
+}
+
+impl<P: Place> SharedDisk for DiskFile<P, P::File>
+where
+    P::File: Send,
+{
+    type Part = FilePart<P::File>;
+
+    fn part(&mut self) -> Option<FilePart<P::File>> {
+        match self.file.again() {
+            Ok(file) => Some(FilePart::new(file)),
+            Err(_) => None,
+        }
+    }
+
+    fn take_back(&mut self, part: FilePart<P::File>) {
+        add_faults(&mut self.faults, part.faults());
+    }
 }

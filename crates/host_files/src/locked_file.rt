@@ -50,6 +50,11 @@ impl<F: OffsetFile> LockedFile<F> {
         self.id
     }
 
+    /// Another handle of it, which only reads.
+    pub(crate) fn again(&self) -> io::Result<F> {
+        self.file.again()
+    }
+
     /// The count of its bytes.
     pub(crate) fn len(&mut self) -> io::Result<u64>
         ensures told { IfOk result

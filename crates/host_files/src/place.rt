@@ -30,6 +30,10 @@ pub trait OffsetFile: Drop {
     fn take_lock(&mut self) -> io::Result<()>
         ensures locked { OnOk result (is_locked self.new ≡ true) };
 
+    /// Another handle of the same file, which reads by itself.
+    fn again(&self) -> io::Result<Self>
+        ensures { IfOk result (λ f. content f ≡ content self.now) };
+
     /// The count of its bytes.
     fn len(&mut self) -> io::Result<u64>
         ensures told { IfOk result (λ n. IfSome (content self.old) (λ bytes. n ≡ length bytes)) }
@@ -74,6 +78,10 @@ impl OffsetFile for File {
 
     fn take_lock(&mut self) -> io::Result<()> {
         Ok(self.try_lock()?)
+    }
+
+    fn again(&self) -> io::Result<File> {
+        self.try_clone()
     }
 
     fn len(&mut self) -> io::Result<u64> {
