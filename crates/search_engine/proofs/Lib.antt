@@ -1,9 +1,13 @@
 pub mod SlotLemmas
 pub mod ChunkLemmas
 pub mod PageLemmas
-pub mod AheadLemmas
 pub mod LawLemmas
 pub mod RowLemmas
 pub mod ServedLemmas
 pub mod SearchLemmas
 pub mod JournalLemmas
+pub mod FrontsLemmas
+pub mod LaneLemmas
+pub mod LaneListLemmas
+pub mod TurnLemmas
+pub mod PartLemmas

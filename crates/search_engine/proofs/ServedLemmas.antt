@@ -1,5 +1,5 @@
 -- Pages that wait, and the words that are held for them.
-use Rattle.std.proofs.Common.{◌≡◌, ℕ, List, [], ◌∷◌, ◌++◌, map, Option, All, sym, subst}
+use Rattle.std.proofs.Common.{◌≡◌, ◌<◌, ◌∙◌, ℕ, List, [], ◌∷◌, ◌++◌, length, get_or, map, Option, All, ap, sym, subst}
 use Rattle.std.proofs.lemmas.List.Elements.{All-cons, All-head, All-nil, All-tail}
 use Rattle.word_places.specs.declared.place.WordsPlace.{WordsPlace}
 use Rattle.word_places.specs.Held.{Grow, HeldNames, unread}
@@ -11,6 +11,7 @@ use Rattle.search_walk.specs.Ready.{IsReadyPage, Serves}
 use Rattle.search_engine.specs.Waiting.{IsWorked, Page, Slotted, pages_of}
 use Rattle.search_engine.specs.Worked.{IsWorkedBy}
 use Rattle.search_walk.proofs.ReadyLemmas.{serves_first, rows_grow}
+use Rattle.search_engine.proofs.SlotLemmas.{pages_kept}
 
 pages_grow : (n : Named) (q : Asked) (old new : HeldNames) (pages : List Page) → Serves n new → Grow old.records new.records → AreReadyPages n q old pages → AreReadyPages n q new pages
 pages_grow n q old new [] serves grow ready = tt
@@ -44,3 +45,15 @@ all_worked n q held (s ∷ slots) worked ready =
 
 pub served_first : (told : Option (List ℕ)) (q : Asked) (held : HeldNames) (places : List WordsPlace) (pages : List Page) → held.records ≡ map unread places → AreInOrder 0 places → pages ≡ [] → IsServed (named told held) q held pages
 served_first told q held places pages is order none = served_none (named told held) q held pages (serves_first told held places is order) none
+
+-- ---- a round that was searched
+
+pub round_worked : (n : Named) (q asked : Asked) (held by : HeldNames) (old new sent items : List Slotted) (pages : List Page) → asked ≡ q → by ≡ held → length new ≡ length old
+    → ((k : ℕ) (d : Slotted) → k < length old → (get_or new k d).page ≡ (get_or old k d).page) → All (IsWorkedBy asked by) new → sent ≡ new → old ≡ items → pages_of items ≡ pages → AreReadyPages n q held pages
+    → All (IsWorked n q) sent × (pages_of sent ≡ pages_of items)
+round_worked n q asked held by old new sent items pages same words long each worked is lent mine ready =
+    let kept : pages_of new ≡ pages_of items = pages_kept old new long each ∙ ap pages_of lent in
+    let own : AreReadyPages n q held (pages_of new) = subst (λ (l : List Page). AreReadyPages n q held l) (sym mine ∙ sym kept) ready in (
+      subst (λ (l : List Slotted). All (IsWorked n q) l) (sym is) (all_worked n q held new (subst (λ (h : HeldNames). All (IsWorkedBy q h) new) words (subst (λ (x : Asked). All (IsWorkedBy x by) new) same worked)) own),
+      ap pages_of is ∙ kept,
+    )

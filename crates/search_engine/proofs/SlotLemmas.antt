@@ -25,11 +25,11 @@ use Rattle.search_engine.specs.StepsWaiting.{waits_split}
 
 -- ---- one page
 
-length_numbered : (name : List ℕ) (k : ℕ) (messages : List (List ℕ)) → length (numbered name k messages) ≡ length messages
+pub length_numbered : (name : List ℕ) (k : ℕ) (messages : List (List ℕ)) → length (numbered name k messages) ≡ length messages
 length_numbered name k [] = refl
 length_numbered name k (m ∷ messages) = ap suc (length_numbered name (k + 1) messages)
 
-as_many : (n : Named) (rows : List Row) (messages : List (List ℕ)) → AreRowsOf n rows messages → length messages ≡ length rows
+pub as_many : (n : Named) (rows : List Row) (messages : List (List ℕ)) → AreRowsOf n rows messages → length messages ≡ length rows
 as_many n [] [] are = refl
 as_many n [] (m ∷ messages) are = absurd are.are
 as_many n (r ∷ rows) [] are = absurd are.are

@@ -5,9 +5,9 @@ pub mod Laws
 pub mod StepsPast
 pub mod Served
 pub mod Over
-pub mod Ahead
 pub mod NextPage
 pub mod Kept
+pub mod Lanes
 pub mod SegmentsDone
 pub mod Searched
 pub mod Prepared

@@ -14,7 +14,11 @@ use std::sync::ledger::Ledger;
 use step_count::Steps;
 
 /// Sends a text behind what is gathered. One that is long enough for a piece is not copied.
-fn put_text<K: Sink>(out: &mut K, gathered: &mut Vec<u8>, text: &[u8]) -> Result<(), SearchRefusal>
+pub(crate) fn put_text<K: Sink>(
+    out: &mut K,
+    gathered: &mut Vec<u8>,
+    text: &[u8],
+) -> Result<(), SearchRefusal>
     // by the answer
     ensures done { OnOk result (Moves (K.written out.old) (K.written out.new)
         (gathered.old.items ++ text.now) gathered.new.items) }
@@ -38,7 +42,7 @@ fn put_text<K: Sink>(out: &mut K, gathered: &mut Vec<u8>, text: &[u8]) -> Result
 }
 
 /// Ticks so often.
-fn tick_times<M: Ledger>(times: u64, expanded: &mut Steps<M>)
+pub(crate) fn tick_times<M: Ledger>(times: u64, expanded: &mut Steps<M>)
     ensures { expanded.new ≡ expanded.old + times }
 {
     for _ in 0..times {

@@ -1,21 +1,20 @@
-//! A batch of pages: they are read one after the other, searched by workers, and sent on in order.
-ghost use Rattle.std.specs.Prelude.{◌≡◌, ◌<◌, ◌≤◌, ◌++◌, ◌∷◌, [], length, IfOk, OnOk, OnErr, IsErrOf};
+//! A batch of pages: they are read one after the other, searched, and sent on in order.
+ghost use Rattle.std.specs.Prelude.{◌≡◌, ◌++◌, ◌∷◌, [], IfOk, OnOk, OnErr, IsErrOf};
 ghost use Rattle.log_seams.specs.Outside.{CountsOf};
-ghost use Rattle.search_walk.specs.Held.{Named, OfLeft};
+ghost use Rattle.search_walk.specs.Held.{OfLeft};
 ghost use Rattle.search_walk.specs.PagesRead.{ReadsPage};
 ghost use Rattle.search_walk.specs.Takes.{IsLeft};
-ghost use Rattle.search_engine.specs.Ahead.{AreAhead, AreDecidedPages, AreHeldPages};
+ghost use Rattle.sink_pieces.specs.Output.{GrewByFront};
+ghost use Rattle.search_engine.specs.Lanes.{TakesLeft};
 ghost use Rattle.search_engine.specs.NextPage.{IsNextPage};
 ghost use Rattle.search_engine.specs.Over.{HaltsOver, IsServedOver, ReachesOver};
 ghost use Rattle.search_engine.specs.Served.{IsServed};
 ghost use Rattle.search_engine.specs.Waiting.{Blames, nothing_pending, state};
 
 use crate::counts::Counts;
-use crate::gathering::gather_all;
-use crate::page_ahead::{PagesAhead, match_beside};
-use crate::page_slot::{NO_COUNTS, PageSlot, match_pages};
+use crate::gathering::{gather_all, put_text, tick_times};
+use crate::page_slot::{NO_COUNTS, PageSlot, match_chunk};
 use crate::printing::Printer;
-use crate::threaded::ThreadedContext;
 use log_seams::{Disk, Sink};
 use search_walk::{Context, Label, SearchRefusal};
 use segment_pages::SegmentPages;
@@ -24,19 +23,14 @@ use std::alloc::{AllocError, Global};
 use std::marker::Model;
 use std::mem::swap;
 use std::sync::ledger::Ledger;
-use std::thread::Threads;
 use step_count::Steps;
 use word_places::HeldWords;
-
-/// How many pages of a round each thread has that searches. As many more are read meanwhile.
-const PAGES: usize = 2;
 
 /// What is at hand between the reads of pages: the lines for the output, the counts, and the pages that
 /// wait to be searched. Pages that were searched lend their memory to later ones.
 #[derive(Drop)]
 pub(crate) struct PageBatch {
     alloc: Global,
-    workers: usize,
     gathered: Vec<u8>,
     counts: Counts,
     waiting: Vec<PageSlot>,
@@ -46,7 +40,6 @@ pub(crate) struct PageBatch {
 }
 
 impl Model for PageBatch {
-    ghost use Rattle.std.specs.Prelude.{◌<◌};
     ghost use Rattle.search_engine.specs.Waiting.{Pending, pages_of};
 
     ghost Value = { Pending };
@@ -56,18 +49,15 @@ impl Model for PageBatch {
       counts = r.counts;
       pages = pages_of r.waiting.items;
     } };
-
-    ghost invariant = { λ r. 0 < r.workers };
 }
 
 impl PageBatch {
-    /// Nothing at hand, for so many workers, but one at least. Takes no memory.
-    pub(crate) fn new(alloc: Global, workers: u32) -> PageBatch
+    /// Nothing at hand. Takes no memory.
+    pub(crate) fn new(alloc: Global) -> PageBatch
         ensures { result ≡ nothing_pending }
     {
         PageBatch {
             alloc,
-            workers: workers.max(1) as usize,
             gathered: Vec::new(alloc),
             counts: NO_COUNTS,
             waiting: Vec::new(alloc),
@@ -140,163 +130,117 @@ impl PageBatch {
         Ok(())
     }
 
-    /// A slot for a page, which lends the memory of one that was searched.
-    pub(crate) fn take_slot(&mut self) -> PageSlot
-        ensures { self.new ≡ self.old }
-    {
-        match self.spare.pop() {
-            Some(slot) => slot,
-            None => PageSlot::new(self.alloc),
-        }
-    }
-
-    /// How many threads search the pages of a round beside the one that reads the next pages, so that
-    /// there are as many in all as workers.
-    fn beside(&self) -> usize
-        ensures { 0 < result }
-    {
-        self.workers.saturating_sub(1).max(1)
-    }
-
-    /// Whether as many pages wait as are searched together. One worker has none wait.
-    pub(crate) fn is_round(&self) -> bool {
-        self.workers > 1 && self.waiting.len() / PAGES >= self.beside()
-    }
-
-    /// Whether what waits is to be searched at once. One worker takes each page as it comes, and so is a
-    /// light one taken where no other waits before it: its columns are still near then.
-    pub(crate) fn is_due(&self) -> bool {
-        if self.workers == 1 {
-            return true;
-        }
-        match self.waiting.as_slice() {
-            [slot] => slot.is_light(),
-            _ => false,
-        }
-    }
-
     /// Searches the pages that wait, and sends on what they left.
-    pub(crate) fn run<R: Threads + Sync, D: Disk, K: Sink, M: Ledger>(
+    pub(crate) fn run<D: Disk, K: Sink, M: Ledger>(
         &mut self,
-        over: &ThreadedContext<'_, '_, R, D>,
+        context: &Context<'_, D>,
         held: &HeldWords,
         out: &mut K,
         expanded: &mut Steps<M>,
     ) -> Result<(), SearchRefusal>
-        requires served { IsServedOver over.now.context.now held.now self.old.pages }
+        requires served { IsServedOver context.now held.now self.old.pages }
 
         // by the answer
-        ensures done { OnOk result (ReachesOver over.now.context.now []
+        ensures done { OnOk result (ReachesOver context.now []
             (state (K.written out.old) self.old expanded.old)
             (state (K.written out.new) self.new expanded.new)) }
         ensures empty { OnOk result (self.new.pages ≡ []) }
-        ensures stopped { OnErr result (HaltsOver over.now.context.now []
+        ensures stopped { OnErr result (HaltsOver context.now []
             (state (K.written out.old) self.old expanded.old)
             (K.written out.new) expanded.new) }
 
         // causes
         ensures damaged { IsErrOf result SearchRefusal.Damaged
-            → Blames over.now.context.now.names self.old.pages ⊥ }
+            → Blames context.now.names self.old.pages ⊥ }
         ensures disk { ¬ IsErrOf result SearchRefusal.DiskFault }
         ensures sink_counts { CountsOf SearchRefusal.SinkFault
             (K.faults out.old) (K.faults out.new) result }
     {
-        let printer = Printer::of(over.context, held);
+        let printer = Printer::of(context, held);
         let slots = self.waiting.as_mut_slice();
-        match_pages(over.rt, self.workers, &printer, slots);
+        match_chunk(&printer, slots);
         gather_all(slots, out, &mut self.gathered, &mut self.counts, expanded)?;
         swap(&mut self.waiting, &mut self.spare);
         self.waiting.clear();
         Ok(())
     }
 
-    /// Searches the pages that wait, and sends on what they left; meanwhile as many of the next pages of
-    /// a segment are read and decided. Nothing is sent after a fault of the disk.
-    pub(crate) fn run_beside<R: Threads + Sync, D: Disk, K: Sink, M: Ledger>(
+    /// Gathers what a lane left, its lines and its counts.
+    pub(crate) fn take_left<K: Sink, M: Ledger>(
         &mut self,
-        over: &ThreadedContext<'_, '_, R, D>,
-        held: &HeldWords,
-        pages: &mut SegmentPages,
-        disk: &mut D,
-        ahead: &mut PagesAhead,
+        text: &[u8],
+        counts: Counts,
         out: &mut K,
         expanded: &mut Steps<M>,
     ) -> Result<(), SearchRefusal>
-        requires served { IsServedOver over.now.context.now held.now self.old.pages }
-
-        // what is read
-        ensures reads { (n : Named)
-            → ReadsPage n pages.old (D.state disk.old) (D.state disk.new) }
-        ensures ahead { OnOk result (AreAhead (D.state disk.old).seen
-            pages.old ahead.new.queue.items pages.new) }
-        ensures decided { AreDecidedPages over.now.context.now.names over.now.context.now.query
-            ahead.new.queue.items }
-        ensures held { AreHeldPages held.now ahead.new.queue.items }
-        ensures few { length ahead.new.queue.items ≤ 65536 }
-
         // by the answer
-        ensures done { OnOk result (ReachesOver over.now.context.now []
+        ensures done { OnOk result (TakesLeft text.now counts
             (state (K.written out.old) self.old expanded.old)
             (state (K.written out.new) self.new expanded.new)) }
-        ensures empty { OnOk result (self.new.pages ≡ []) }
-        ensures stopped { OnErr result (HaltsOver over.now.context.now []
-            (state (K.written out.old) self.old expanded.old)
-            (K.written out.new) expanded.new) }
+        ensures stopped { OnErr result (GrewByFront (K.written out.old) (K.written out.new)
+            (self.old.gathered ++ text.now)) }
+        ensures ticks { OnErr result (expanded.new ≡ expanded.old) }
 
         // causes
-        ensures damaged { IsErrOf result SearchRefusal.Damaged
-            → Blames over.now.context.now.names self.old.pages ⊥ }
-        ensures disk_counts { CountsOf SearchRefusal.DiskFault
-            (D.state disk.old).faults (D.state disk.new).faults result }
+        ensures damaged { ¬ IsErrOf result SearchRefusal.Damaged }
+        ensures disk { ¬ IsErrOf result SearchRefusal.DiskFault }
         ensures sink_counts { CountsOf SearchRefusal.SinkFault
             (K.faults out.old) (K.faults out.new) result }
     {
-        let printer = Printer::of(over.context, held);
-        let threads = self.beside();
-        let slots = self.waiting.as_mut_slice();
-        match_beside(
-            over.rt,
-            threads,
-            &printer,
-            slots,
-            over.context,
-            pages,
-            disk,
-            ahead,
-        )?;
-        gather_all(slots, out, &mut self.gathered, &mut self.counts, expanded)?;
-        swap(&mut self.waiting, &mut self.spare);
-        self.waiting.clear();
+        put_text(out, &mut self.gathered, text)?;
+        tick_times(counts.expanded, expanded);
+        self.counts.matched = self.counts.matched.saturating_add(counts.matched);
+        self.counts.expanded = self.counts.expanded.saturating_add(counts.expanded);
+        Ok(())
+    }
+
+    /// Sends out what is gathered, and behind it the lines that a lane left which was stopped.
+    pub(crate) fn send_left<K: Sink>(
+        &mut self,
+        text: &[u8],
+        out: &mut K,
+    ) -> Result<(), SearchRefusal>
+        ensures front { GrewByFront (K.written out.old) (K.written out.new)
+            (self.old.gathered ++ text.now) }
+
+        // causes
+        ensures damaged { ¬ IsErrOf result SearchRefusal.Damaged }
+        ensures disk { ¬ IsErrOf result SearchRefusal.DiskFault }
+        ensures sink_counts { CountsOf SearchRefusal.SinkFault
+            (K.faults out.old) (K.faults out.new) result }
+    {
+        put_text(out, &mut self.gathered, text)?;
+        flush(out, &mut self.gathered)?;
         Ok(())
     }
 
     /// Searches the pages that wait, and sends out all that is at hand.
-    pub(crate) fn finish<R: Threads + Sync, D: Disk, K: Sink, M: Ledger>(
+    pub(crate) fn finish<D: Disk, K: Sink, M: Ledger>(
         &mut self,
-        over: &ThreadedContext<'_, '_, R, D>,
+        context: &Context<'_, D>,
         held: &HeldWords,
         out: &mut K,
         expanded: &mut Steps<M>,
     ) -> Result<(), SearchRefusal>
-        requires served { IsServedOver over.now.context.now held.now self.old.pages }
+        requires served { IsServedOver context.now held.now self.old.pages }
 
         // by the answer
-        ensures done { OnOk result (ReachesOver over.now.context.now []
+        ensures done { OnOk result (ReachesOver context.now []
             (state (K.written out.old) self.old expanded.old)
             (state (K.written out.new) self.new expanded.new)) }
         ensures empty { OnOk result ((self.new.pages ≡ []) × (self.new.gathered ≡ [])) }
-        ensures stopped { OnErr result (HaltsOver over.now.context.now []
+        ensures stopped { OnErr result (HaltsOver context.now []
             (state (K.written out.old) self.old expanded.old)
             (K.written out.new) expanded.new) }
 
         // causes
         ensures damaged { IsErrOf result SearchRefusal.Damaged
-            → Blames over.now.context.now.names self.old.pages ⊥ }
+            → Blames context.now.names self.old.pages ⊥ }
         ensures disk { ¬ IsErrOf result SearchRefusal.DiskFault }
         ensures sink_counts { CountsOf SearchRefusal.SinkFault
             (K.faults out.old) (K.faults out.new) result }
     {
-        self.run(over, held, out, expanded)?;
+        self.run(context, held, out, expanded)?;
         flush(out, &mut self.gathered)?;
         Ok(())
     }

@@ -1,33 +1,27 @@
 //! Pages in memory: each is searched into a buffer of its own.
-ghost use Rattle.std.specs.Prelude.{◌≡◌, ◌<◌, ◌+◌, ◌^◌, ℕ, List, All, length, IfOk, OnOk, IsErrOf, slice_index_or};
+ghost use Rattle.std.specs.Prelude.{◌≡◌, ◌<◌, ◌+◌, ◌^◌, ℕ, List, length, IfOk, OnOk, IsErrOf};
 ghost use Rattle.log_seams.specs.Outside.{CountsOf};
 ghost use Rattle.step_count.specs.Opens.{OpensFor};
 ghost use Rattle.row_codec.specs.Laid.{AreCut};
-ghost use Rattle.segment_pages.specs.Paged.{Paged};
 ghost use Rattle.word_places.specs.Held.{Grow};
-ghost use Rattle.search_walk.specs.Held.{AreRowsOf, IsTold, Named, OfLeft};
+ghost use Rattle.search_walk.specs.Held.{AreRowsOf, Named, OfLeft};
 ghost use Rattle.search_walk.specs.PagesRead.{ReadsPage};
 ghost use Rattle.search_walk.specs.Ready.{IsReadyPage, Serves};
 ghost use Rattle.search_walk.specs.Takes.{IsLeft};
-ghost use Rattle.search_engine.specs.Ahead.{IsHeldPage, MayWait};
 ghost use Rattle.search_engine.specs.NextPage.{IsNextPage};
 ghost use Rattle.search_engine.specs.Waiting.{PrintsPage, Slotted, page};
 ghost use Rattle.search_engine.specs.Worked.{AreMatched, IsWorkedBy};
 
 use crate::counts::Counts;
-use crate::page_ahead::AheadPage;
 use crate::printing::{Printer, print_page};
 use crate::refusal::PrintRefusal;
 use column_store::Columns;
 use log_seams::Disk;
-use rayon::prelude::par_chunks_mut_for_each;
-use search_walk::{Context, Label, SearchRefusal, decide_rows, hold_rows, is_rejected};
+use search_walk::{Context, Label, SearchRefusal, decide_rows};
 use segment_pages::SegmentPages;
 use std::alloc::Global;
 use std::marker::{Brand, Model};
-use std::mem::swap;
 use std::sync::ledger::{Blank, Ledger};
-use std::thread::Threads;
 use step_count::Steps;
 use subquery_filter::Verdict;
 use word_places::HeldWords;
@@ -37,21 +31,6 @@ pub(crate) const NO_COUNTS: Counts = Counts {
     matched: 0,
     expanded: 0,
 };
-
-/// Of how many rows a light page leaves it open at most whether they are printed. What it costs to
-/// make a thread, and to keep a page until then, pays for no fewer.
-const FEW_ROWS: u32 = 512;
-
-/// Whether few rows are not rejected.
-fn are_few(verdicts: &[Verdict]) -> bool {
-    let mut wanted: u32 = 0;
-    for verdict in verdicts {
-        if !is_rejected(*verdict) {
-            wanted = wanted.saturating_add(1);
-        }
-    }
-    wanted <= FEW_ROWS
-}
 
 /// A page in memory, what was decided of its rows, and what its search left: the lines of the messages
 /// that are found, the counts, and whether it went through.
@@ -105,11 +84,6 @@ impl PageSlot {
         ensures { result ≡ length self.now.page.rows }
     {
         self.columns.rows()
-    }
-
-    /// Whether the search of it is so little work that no other thread pays for it.
-    pub(crate) fn is_light(&self) -> bool {
-        are_few(self.verdicts.as_slice())
     }
 
     /// The lines that its search left.
@@ -189,65 +163,6 @@ impl PageSlot {
             answer,
         })
     }
-
-    /// Takes a page that was decided in the place of the one that it has, whose memory it leaves there,
-    /// and reads the words by which its rows may have to be written.
-    pub(crate) fn fill<D: Disk>(
-        self,
-        context: &Context<'_, D>,
-        held: &mut HeldWords,
-        label: Label<'_>,
-        ahead: &mut AheadPage,
-        disk: &mut D,
-    ) -> Result<PageSlot, SearchRefusal>
-        requires may_wait { MayWait context.now.names context.now.query label.number ahead.old }
-        requires held { IsHeldPage held.old ahead.old }
-        requires serves { Serves context.now.names held.old }
-        requires told { (D.state disk.old).seen ≡ context.now.names.told }
-
-        // what stays, and what grows
-        ensures reads { (p : Paged)
-            → ReadsPage context.now.names p (D.state disk.old) (D.state disk.new) }
-        ensures serves { Serves context.now.names held.new }
-        ensures grow { Grow held.old.records held.new.records }
-
-        // by the answer
-        ensures page { IfOk result (λ s. s.page ≡ page label.entry.name.now label.entry.number
-            ahead.old.columns.rows ahead.old.verdicts.items) }
-        ensures ready { IfOk result (λ s. IsReadyPage context.now.names context.now.query
-            held.new s.page.rows s.page.verdicts) }
-
-        // causes
-        ensures damaged { IsErrOf result SearchRefusal.Damaged → ¬ IsTold context.now.names }
-        ensures counts { CountsOf SearchRefusal.DiskFault
-            (D.state disk.old).faults (D.state disk.new).faults result }
-        ensures sink { ¬ IsErrOf result SearchRefusal.SinkFault }
-    {
-        let PageSlot {
-            name: mut kept,
-            number: _,
-            mut columns,
-            mut verdicts,
-            text,
-            counts,
-            answer,
-        } = self;
-        let known = ahead.known;
-        kept.clear();
-        kept.extend_from_slice(label.name)?;
-        swap(&mut columns, &mut ahead.columns);
-        swap(&mut verdicts, &mut ahead.verdicts);
-        hold_rows(context, &columns, verdicts.as_slice(), known, held, disk)?;
-        Ok(PageSlot {
-            name: kept,
-            number: label.number,
-            columns,
-            verdicts,
-            text,
-            counts,
-            answer,
-        })
-    }
 }
 
 // Searches a page, with a counter of its own. Its counts are exact, as a page is small.
@@ -287,7 +202,7 @@ fn match_counted<M: Ledger>(
 }
 
 /// Searches a page that is in memory.
-pub(crate) fn match_page(printer: &Printer<'_>, slot: &mut PageSlot)
+fn match_page(printer: &Printer<'_>, slot: &mut PageSlot)
     requires types { AreCut printer.now.layouts.now printer.now.held.now.types }
     ensures page { slot.new.page ≡ slot.old.page }
     ensures worked { IsWorkedBy printer.now.query.now printer.now.held.now slot.new }
@@ -297,44 +212,11 @@ pub(crate) fn match_page(printer: &Printer<'_>, slot: &mut PageSlot)
 }
 
 /// Searches pages that are in memory, one after the other.
-fn match_chunk(printer: &Printer<'_>, slots: &mut [PageSlot])
+pub(crate) fn match_chunk(printer: &Printer<'_>, slots: &mut [PageSlot])
     requires types { AreCut printer.now.layouts.now printer.now.held.now.types }
     ensures { AreMatched printer.now.query.now printer.now.held.now slots.old slots.new }
 {
     for slot in slots.iter_mut() {
         match_page(printer, slot);
     }
-}
-
-/// Searches pages that are in memory, in at most so many threads. Each has as many pages, but for the
-/// last.
-pub(crate) fn match_pages<R: Threads + Sync>(
-    rt: &R,
-    threads: usize,
-    printer: &Printer<'_>,
-    slots: &mut [PageSlot],
-)
-    requires threads { 0 < threads }
-    requires types { AreCut printer.now.layouts.now printer.now.held.now.types }
-    ensures len { length slots.new ≡ length slots.old }
-    ensures pages { (k : ℕ) (d : Slotted) → k < length slots.old
-        → (slice_index_or slots.new k d).page ≡ (slice_index_or slots.old k d).page }
-    ensures worked { All (IsWorkedBy printer.now.query.now printer.now.held.now) slots.new }
-{
-    let size = slots.len().div_ceil(threads).max(1);
-    // One chunk needs no other thread, and no look at how many processors there are.
-    if slots.len() <= size {
-        match_chunk(printer, slots);
-        return;
-    }
-    par_chunks_mut_for_each(
-        rt,
-        slots,
-        size,
-        |_start: usize, chunk: &mut [PageSlot]|
-            requires { AreCut printer.now.layouts.now printer.now.held.now.types }
-            ensures { AreMatched printer.entry.now.query.now printer.entry.now.held.now
-                chunk.entry.now chunk.exit.now }
-        { match_chunk(printer, chunk) },
-    );
 }

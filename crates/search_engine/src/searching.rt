@@ -9,13 +9,13 @@ ghost use Rattle.search_engine.specs.Waiting.{nothing_pending};
 ghost use Rattle.search_engine.specs.Searched.{HasSearched, HasStopped};
 ghost use Rattle.search_meaning.specs.Journal.{OfJournal, ReadsNoBarren, asked};
 
+use crate::beside::{Crew, Workers, search_fronts};
+use crate::lane::LaneScope;
 use crate::page_batch::PageBatch;
-use crate::page_taking::print_segments;
 use crate::prepared::Prepared;
-use crate::threaded::ThreadedContext;
 use archive_places::{Places, heads_stand, words_stand};
 use column_store::Range;
-use log_seams::{Disk, Sink};
+use log_seams::{SharedDisk, Sink};
 use search_meaning::Report;
 use search_walk::{Context, Query, SearchRefusal};
 use std::alloc::Global;
@@ -24,9 +24,10 @@ use std::thread::Threads;
 use step_count::Steps;
 use wild_match::Pattern;
 
-/// Searches the segments of an archive, with nothing gathered, and sends out what is left.
-fn search_opened<R: Threads + Sync, D: Disk, K: Sink, L: Ledger, M: Ledger>(
-    rt: &R,
+/// Searches the segments of an archive, with nothing gathered, and sends out what is left. A journal's
+/// words and heads stand where its places say.
+fn search_opened<R: Threads + Sync, D: SharedDisk, K: Sink, L: Ledger, M: Ledger>(
+    workers: Workers<'_, R>,
     query: &Query,
     places: Places,
     disk: &mut D,
@@ -36,32 +37,30 @@ fn search_opened<R: Threads + Sync, D: Disk, K: Sink, L: Ledger, M: Ledger>(
     expanded: &mut Steps<M>,
 ) -> Result<Report, SearchRefusal>
     requires searched { IsSearched query.now.pattern }
-    requires opens { OpensPlaces (D.state disk.old).seen places }
+    requires opens { OpensPlaces (D.Disk.state disk.old).seen places }
     requires order { AreInOrder 0 places.words }
     requires empty { batch.old ≡ nothing_pending }
 
-    // what stays
-    ensures rests { Rests (D.state disk.old) (D.state disk.new) }
-    ensures reads { OfJournal (D.state disk.old).seen (λ h es held. ReadsNoBarren h es held
-        query.now (D.state disk.old).ranges (D.state disk.new).ranges) }
-
-    // by the answer
-    ensures done { IfOk result (λ r. OfJournal (D.state disk.old).seen (λ h es held. HasSearched
+    // what stays, and by the answer
+    ensures rests { Rests (D.Disk.state disk.old) (D.Disk.state disk.new) }
+    ensures reads { OfJournal (D.Disk.state disk.old).seen (λ h es held. ReadsNoBarren h es held
+        query.now (D.Disk.state disk.old).ranges (D.Disk.state disk.new).ranges) }
+    ensures done { IfOk result (λ r. OfJournal (D.Disk.state disk.old).seen
+        (λ h es held. HasSearched
         h es held query.now r (K.written out.old) (K.written out.new)
         opened.old opened.new expanded.old expanded.new)) }
-    ensures stopped { OnErr result (OfJournal (D.state disk.old).seen (λ h es held. HasStopped
+    ensures stopped { OnErr result (OfJournal (D.Disk.state disk.old).seen (λ h es held. HasStopped
         h es held query.now (K.written out.old) (K.written out.new)
         opened.old opened.new expanded.old expanded.new)) }
 
     // causes
     ensures damaged { IsErrOf result SearchRefusal.Damaged
-        → OfJournal (D.state disk.old).seen (λ _ _ _. ⊥) }
+        → OfJournal (D.Disk.state disk.old).seen (λ _ _ _. ⊥) }
     ensures disk_counts { CountsOf SearchRefusal.DiskFault
-        (D.state disk.old).faults (D.state disk.new).faults result }
+        (D.Disk.state disk.old).faults (D.Disk.state disk.new).faults result }
     ensures sink_counts { CountsOf SearchRefusal.SinkFault
         (K.faults out.old) (K.faults out.new) result }
 {
-    // A journal's words and heads stand where its places say.
     words_stand();
     heads_stand();
     let prepared = Prepared::of(batch.alloc(), query, places, disk)?;
@@ -75,13 +74,21 @@ fn search_opened<R: Threads + Sync, D: Disk, K: Sink, L: Ledger, M: Ledger>(
     let names = files.as_slice();
     let found = told.found.as_slice();
     let context = Context::new(query, &layouts, &told.filter, names, found, &held, disk);
-    let over = ThreadedContext {
-        rt,
-        context: &context,
-    };
     let fronts = segments.as_slice();
-    let count = print_segments(&over, &mut held, fronts, disk, out, batch, opened, expanded)?;
-    batch.finish(&over, &held, out, expanded)?;
+    let lane = LaneScope {
+        query,
+        layouts: &layouts,
+        filter: &told.filter,
+        files: names,
+        found,
+    };
+    let crew = Crew {
+        workers,
+        context: &context,
+        lane,
+    };
+    let count = search_fronts(&crew, &mut held, fronts, disk, out, batch, opened, expanded)?;
+    batch.finish(&context, &held, out, expanded)?;
     let counts = batch.counts();
     Ok(Report {
         matched: counts.matched,
@@ -98,9 +105,10 @@ fn search_opened<R: Threads + Sync, D: Disk, K: Sink, L: Ledger, M: Ledger>(
 /// Words are read where they are wanted: all of them once, where some log type leaves the decision to
 /// its words or a word that is needed is a variable; and then with its record each word of a message that is written.
 ///
-/// The `workers` are so many threads in all. The calling one reads pages and prints; the others search,
-/// each two pages at a time, while it reads as many of the next ones. Pages of which little is left to
-/// search are searched by the calling thread. With any number of workers the same is printed and counted.
+/// The `workers` are so many threads in all, each with a part of the disk. In a turn each reads and
+/// searches whole segments by itself, up to 65,536 rows or one segment; what they found is printed in
+/// order behind the turn. With any number of workers the same is printed and counted. Where the disk
+/// has no parts there is one.
 ///
 /// Of a barren segment no column is read: its head tells that no message of it in the range matches. Of
 /// the others `opened` counts each, and `expanded` counts the messages in the range that the widened
@@ -111,7 +119,7 @@ fn search_opened<R: Threads + Sync, D: Disk, K: Sink, L: Ledger, M: Ledger>(
 /// `DiskFault` or `SinkFault`, where the count of faults of the disk or of the output rose; `Damaged`,
 /// where the disk's bytes are no archive; or `OutOfMemory`. The output then has a front of what is
 /// to be printed.
-pub fn search<R: Threads + Sync, D: Disk, K: Sink, L: Ledger, M: Ledger>(
+pub fn search<R: Threads + Sync, D: SharedDisk, K: Sink, L: Ledger, M: Ledger>(
     rt: &R,
     workers: u32,
     alloc: Global,
@@ -124,31 +132,36 @@ pub fn search<R: Threads + Sync, D: Disk, K: Sink, L: Ledger, M: Ledger>(
     expanded: &mut Steps<M>,
 ) -> Result<Report, SearchRefusal>
     requires searched { IsSearched pattern.now }
-    requires opens { OpensPlaces (D.state disk.old).seen places }
+    requires opens { OpensPlaces (D.Disk.state disk.old).seen places }
     requires order { AreInOrder 0 places.words }
 
     // what stays
-    ensures rests { Rests (D.state disk.old) (D.state disk.new) }
-    ensures reads { OfJournal (D.state disk.old).seen (λ h es held. ReadsNoBarren h es held
-        (asked pattern.now range.now) (D.state disk.old).ranges (D.state disk.new).ranges) }
+    ensures rests { Rests (D.Disk.state disk.old) (D.Disk.state disk.new) }
+    ensures reads { OfJournal (D.Disk.state disk.old).seen (λ h es held. ReadsNoBarren h es held
+        (asked pattern.now range.now)
+        (D.Disk.state disk.old).ranges (D.Disk.state disk.new).ranges) }
 
     // by the answer
-    ensures done { IfOk result (λ r. OfJournal (D.state disk.old).seen (λ h es held. HasSearched
+    ensures done { IfOk result (λ r. OfJournal (D.Disk.state disk.old).seen
+        (λ h es held. HasSearched
         h es held (asked pattern.now range.now) r (K.written out.old) (K.written out.new)
         opened.old opened.new expanded.old expanded.new)) }
-    ensures stopped { OnErr result (OfJournal (D.state disk.old).seen (λ h es held. HasStopped
+    ensures stopped { OnErr result (OfJournal (D.Disk.state disk.old).seen (λ h es held. HasStopped
         h es held (asked pattern.now range.now) (K.written out.old) (K.written out.new)
         opened.old opened.new expanded.old expanded.new)) }
 
     // causes
     ensures damaged { IsErrOf result SearchRefusal.Damaged
-        → OfJournal (D.state disk.old).seen (λ _ _ _. ⊥) }
+        → OfJournal (D.Disk.state disk.old).seen (λ _ _ _. ⊥) }
     ensures disk_counts { CountsOf SearchRefusal.DiskFault
-        (D.state disk.old).faults (D.state disk.new).faults result }
+        (D.Disk.state disk.old).faults (D.Disk.state disk.new).faults result }
     ensures sink_counts { CountsOf SearchRefusal.SinkFault
         (K.faults out.old) (K.faults out.new) result }
 {
     let query = Query::new(alloc, pattern, range)?;
-    let mut batch = PageBatch::new(alloc, workers);
-    search_opened(rt, &query, places, disk, out, &mut batch, opened, expanded)
+    let mut batch = PageBatch::new(alloc);
+    let workers = Workers { rt, count: workers };
+    search_opened(
+        workers, &query, places, disk, out, &mut batch, opened, expanded,
+    )
 }

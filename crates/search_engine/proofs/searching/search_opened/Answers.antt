@@ -10,7 +10,7 @@ use Rattle.search_engine.specs.Waiting.{Blames, Halts, Pending, Reaches, state}
 use Rattle.search_walk.proofs.AnswerLemmas.{on_err}
 use Rattle.search_engine.proofs.ServedLemmas.{served_first}
 use Rattle.search_walk.proofs.JournalLemmas.{knows}
-use Rattle.search_engine.proofs.SearchLemmas.{stopped_nothing, waits_none}
+use Rattle.search_engine.proofs.SearchLemmas.{stopped_nothing}
 use Rattle.search_walk.proofs.JournalLemmas.{all_damaged, all_read, words_damaged, words_only}
 use Rattle.search_engine.proofs.JournalLemmas.{all_searched, all_stopped, last_blamed, last_halted}
 use Rattle.search_engine.proofs.searching.search_opened.Goals as goal
@@ -29,14 +29,22 @@ new-context-requires g c =
     let p = c.in_ok-prepared.prepared in
     subst (λ (l : List (Option ℕ)). IsScope (named (g.D.Disk.state c.of.new.disk).seen p.held) c.args.query.now p.layouts p.told.filter l) (sym c.as_slice-found.ensures.value) c.in_ok-prepared.ensures.ready
 
-pub print_segments-requires-clause-served : goal.print_segments-requires-clause-served
-print_segments-requires-clause-served g c = λ _ _.
+pub search_fronts-requires-clause-served : goal.search_fronts-requires-clause-served
+search_fronts-requires-clause-served g c = λ _ _.
     subst (λ (s : Scope). IsServed s.names s.query c.in_ok-prepared.prepared.held c.args.batch.now.pages) (sym c.new-context.ensures)
     (served_first (g.D.Disk.state c.of.new.disk).seen c.args.query.now c.in_ok-prepared.prepared.held c.args.places.words c.args.batch.now.pages c.in_ok-prepared.ensures.kept.records
     c.requires.order (ap (λ (p : Pending). p.pages) c.requires.empty))
 
-pub print_segments-requires-clause-told : goal.print_segments-requires-clause-told
-print_segments-requires-clause-told g c = λ _ _. ap (λ (s : Scope). s.names.told) (sym c.new-context.ensures)
+pub search_fronts-requires-clause-empty : goal.search_fronts-requires-clause-empty
+search_fronts-requires-clause-empty g c = λ _ _. ap (λ (p : Pending). p.pages) c.requires.empty
+
+pub search_fronts-requires-clause-scope : goal.search_fronts-requires-clause-scope
+search_fronts-requires-clause-scope g c = λ _ _.
+    let p = c.in_ok-prepared.prepared in
+    subst (λ (l : List (Option ℕ)). IsScope (named (g.D.Disk.state c.of.new.disk).seen p.held) c.args.query.now p.layouts p.told.filter l) (sym c.as_slice-found.ensures.value) c.in_ok-prepared.ensures.ready
+
+pub search_fronts-requires-clause-is : goal.search_fronts-requires-clause-is
+search_fronts-requires-clause-is g c = λ _ _. c.new-context.ensures
 
 pub returns-in_err-count-clause-reads : goal.returns-in_err-count-clause-reads
 returns-in_err-count-clause-reads g c =
@@ -46,8 +54,8 @@ returns-in_err-count-clause-reads g c =
     let a = c.args.places in
     let n : Named = named d1.seen c.in_ok-prepared.prepared.held in
     let known = knows d0.seen d1.seen a c.in_ok-prepared.prepared.held n c.of.ensures.rests.seen c.in_ok-prepared.ensures.kept.types c.in_ok-prepared.ensures.kept.version c.in_ok-prepared.ensures.kept.records refl in
-    all_read d0.seen d1.seen a n c.as_slice-names.result.now c.as_slice-fronts.result.now c.words_stand.ensures c.heads_stand.ensures (c.as_slice-names.ensures ∙ c.in_ok-prepared.ensures.kept.files) (c.as_slice-fronts.ensures ∙ c.in_ok-prepared.ensures.kept.segments) c.requires.opens known c.of.ensures.rests.seen q a.words d0 d1 (g.D.Disk.state c.print_segments.new.disk) c.of.ensures.rests.seen refl c.of.ensures.reads
-    (subst (λ (s : Scope). ReadsFronts d1 (g.D.Disk.state c.print_segments.new.disk) s.names s.files s.query c.as_slice-fronts.result.now) c.new-context.ensures c.print_segments.ensures.reads)
+    all_read d0.seen d1.seen a n c.as_slice-names.result.now c.as_slice-fronts.result.now c.words_stand.ensures c.heads_stand.ensures (c.as_slice-names.ensures ∙ c.in_ok-prepared.ensures.kept.files) (c.as_slice-fronts.ensures ∙ c.in_ok-prepared.ensures.kept.segments) c.requires.opens known c.of.ensures.rests.seen q a.words d0 d1 (g.D.Disk.state c.search_fronts.new.disk) c.of.ensures.rests.seen refl c.of.ensures.reads
+    (subst (λ (s : Scope). ReadsFronts d1 (g.D.Disk.state c.search_fronts.new.disk) s.names s.files s.query c.as_slice-fronts.result.now) c.new-context.ensures c.search_fronts.ensures.reads)
 
 pub returns-in_err-finish-clause-reads : goal.returns-in_err-finish-clause-reads
 returns-in_err-finish-clause-reads g c =
@@ -57,8 +65,8 @@ returns-in_err-finish-clause-reads g c =
     let a = c.args.places in
     let n : Named = named d1.seen c.in_ok-prepared.prepared.held in
     let known = knows d0.seen d1.seen a c.in_ok-prepared.prepared.held n c.of.ensures.rests.seen c.in_ok-prepared.ensures.kept.types c.in_ok-prepared.ensures.kept.version c.in_ok-prepared.ensures.kept.records refl in
-    all_read d0.seen d1.seen a n c.as_slice-names.result.now c.as_slice-fronts.result.now c.words_stand.ensures c.heads_stand.ensures (c.as_slice-names.ensures ∙ c.in_ok-prepared.ensures.kept.files) (c.as_slice-fronts.ensures ∙ c.in_ok-prepared.ensures.kept.segments) c.requires.opens known c.of.ensures.rests.seen q a.words d0 d1 (g.D.Disk.state c.print_segments.new.disk) c.of.ensures.rests.seen refl c.of.ensures.reads
-    (subst (λ (s : Scope). ReadsFronts d1 (g.D.Disk.state c.print_segments.new.disk) s.names s.files s.query c.as_slice-fronts.result.now) c.new-context.ensures c.print_segments.ensures.reads)
+    all_read d0.seen d1.seen a n c.as_slice-names.result.now c.as_slice-fronts.result.now c.words_stand.ensures c.heads_stand.ensures (c.as_slice-names.ensures ∙ c.in_ok-prepared.ensures.kept.files) (c.as_slice-fronts.ensures ∙ c.in_ok-prepared.ensures.kept.segments) c.requires.opens known c.of.ensures.rests.seen q a.words d0 d1 (g.D.Disk.state c.search_fronts.new.disk) c.of.ensures.rests.seen refl c.of.ensures.reads
+    (subst (λ (s : Scope). ReadsFronts d1 (g.D.Disk.state c.search_fronts.new.disk) s.names s.files s.query c.as_slice-fronts.result.now) c.new-context.ensures c.search_fronts.ensures.reads)
 
 pub returns-clause-reads : goal.returns-clause-reads
 returns-clause-reads g c =
@@ -68,17 +76,17 @@ returns-clause-reads g c =
     let a = c.args.places in
     let n : Named = named d1.seen c.in_ok-prepared.prepared.held in
     let known = knows d0.seen d1.seen a c.in_ok-prepared.prepared.held n c.of.ensures.rests.seen c.in_ok-prepared.ensures.kept.types c.in_ok-prepared.ensures.kept.version c.in_ok-prepared.ensures.kept.records refl in
-    all_read d0.seen d1.seen a n c.as_slice-names.result.now c.as_slice-fronts.result.now c.words_stand.ensures c.heads_stand.ensures (c.as_slice-names.ensures ∙ c.in_ok-prepared.ensures.kept.files) (c.as_slice-fronts.ensures ∙ c.in_ok-prepared.ensures.kept.segments) c.requires.opens known c.of.ensures.rests.seen q a.words d0 d1 (g.D.Disk.state c.print_segments.new.disk) c.of.ensures.rests.seen refl c.of.ensures.reads
-    (subst (λ (s : Scope). ReadsFronts d1 (g.D.Disk.state c.print_segments.new.disk) s.names s.files s.query c.as_slice-fronts.result.now) c.new-context.ensures c.print_segments.ensures.reads)
+    all_read d0.seen d1.seen a n c.as_slice-names.result.now c.as_slice-fronts.result.now c.words_stand.ensures c.heads_stand.ensures (c.as_slice-names.ensures ∙ c.in_ok-prepared.ensures.kept.files) (c.as_slice-fronts.ensures ∙ c.in_ok-prepared.ensures.kept.segments) c.requires.opens known c.of.ensures.rests.seen q a.words d0 d1 (g.D.Disk.state c.search_fronts.new.disk) c.of.ensures.rests.seen refl c.of.ensures.reads
+    (subst (λ (s : Scope). ReadsFronts d1 (g.D.Disk.state c.search_fronts.new.disk) s.names s.files s.query c.as_slice-fronts.result.now) c.new-context.ensures c.search_fronts.ensures.reads)
 
 pub returns-in_err-count-clause-rests : goal.returns-in_err-count-clause-rests
-returns-in_err-count-clause-rests g c = rests_on _ (g.D.Disk.state c.of.new.disk) _ c.of.ensures.rests c.print_segments.ensures.rests
+returns-in_err-count-clause-rests g c = rests_on _ (g.D.Disk.state c.of.new.disk) _ c.of.ensures.rests c.search_fronts.ensures.rests
 
 pub returns-in_err-finish-clause-rests : goal.returns-in_err-finish-clause-rests
-returns-in_err-finish-clause-rests g c = rests_on _ (g.D.Disk.state c.of.new.disk) _ c.of.ensures.rests c.print_segments.ensures.rests
+returns-in_err-finish-clause-rests g c = rests_on _ (g.D.Disk.state c.of.new.disk) _ c.of.ensures.rests c.search_fronts.ensures.rests
 
 pub returns-clause-rests : goal.returns-clause-rests
-returns-clause-rests g c = rests_on _ (g.D.Disk.state c.of.new.disk) _ c.of.ensures.rests c.print_segments.ensures.rests
+returns-clause-rests g c = rests_on _ (g.D.Disk.state c.of.new.disk) _ c.of.ensures.rests c.search_fronts.ensures.rests
 
 pub returns-in_err-count-clause-stopped : goal.returns-in_err-count-clause-stopped
 returns-in_err-count-clause-stopped g c =
@@ -89,8 +97,8 @@ returns-in_err-count-clause-stopped g c =
     let n : Named = named d1.seen c.in_ok-prepared.prepared.held in
     let known = knows d0.seen d1.seen a c.in_ok-prepared.prepared.held n c.of.ensures.rests.seen c.in_ok-prepared.ensures.kept.types c.in_ok-prepared.ensures.kept.version c.in_ok-prepared.ensures.kept.records refl in
     on_err c.from_residual-in_err-count.result _
-    (all_stopped d0.seen d1.seen a n c.as_slice-names.result.now c.as_slice-fronts.result.now c.words_stand.ensures c.heads_stand.ensures (c.as_slice-names.ensures ∙ c.in_ok-prepared.ensures.kept.files) (c.as_slice-fronts.ensures ∙ c.in_ok-prepared.ensures.kept.segments) c.requires.opens known c.of.ensures.rests.seen q (g.K.Sink.written c.args.out.now) (g.K.Sink.written c.print_segments.new.out) c.args.batch.now c.args.expanded.now c.print_segments.new.expanded c.args.opened.now c.print_segments.new.opened c.requires.empty
-    (subst (λ (s : Scope). StoppedFronts d1.seen s.names s.files s.query c.as_slice-fronts.result.now (state (g.K.Sink.written c.args.out.now) c.args.batch.now c.args.expanded.now) (g.K.Sink.written c.print_segments.new.out) c.print_segments.new.expanded c.args.opened.now c.print_segments.new.opened)
+    (all_stopped d0.seen d1.seen a n c.as_slice-names.result.now c.as_slice-fronts.result.now c.words_stand.ensures c.heads_stand.ensures (c.as_slice-names.ensures ∙ c.in_ok-prepared.ensures.kept.files) (c.as_slice-fronts.ensures ∙ c.in_ok-prepared.ensures.kept.segments) c.requires.opens known c.of.ensures.rests.seen q (g.K.Sink.written c.args.out.now) (g.K.Sink.written c.search_fronts.new.out) c.args.batch.now c.args.expanded.now c.search_fronts.new.expanded c.args.opened.now c.search_fronts.new.opened c.requires.empty
+    (subst (λ (s : Scope). StoppedFronts d1.seen s.names s.files s.query c.as_slice-fronts.result.now (state (g.K.Sink.written c.args.out.now) c.args.batch.now c.args.expanded.now) (g.K.Sink.written c.search_fronts.new.out) c.search_fronts.new.expanded c.args.opened.now c.search_fronts.new.opened)
     c.new-context.ensures c.in_err-count.ensures.stopped))
 
 pub returns-in_err-count-clause-damaged : goal.returns-in_err-count-clause-damaged
@@ -103,7 +111,7 @@ returns-in_err-count-clause-damaged g c = λ is.
     let known = knows d0.seen d1.seen a c.in_ok-prepared.prepared.held n c.of.ensures.rests.seen c.in_ok-prepared.ensures.kept.types c.in_ok-prepared.ensures.kept.version c.in_ok-prepared.ensures.kept.records refl in
     all_damaged d0.seen d1.seen a n c.as_slice-names.result.now c.as_slice-fronts.result.now c.words_stand.ensures c.heads_stand.ensures (c.as_slice-names.ensures ∙ c.in_ok-prepared.ensures.kept.files) (c.as_slice-fronts.ensures ∙ c.in_ok-prepared.ensures.kept.segments) c.requires.opens known c.of.ensures.rests.seen
     (subst (λ (s : Scope). NoFronts d1.seen s.names s.files c.as_slice-fronts.result.now) c.new-context.ensures
-    (c.in_err-count.ensures.damaged (search rules) [] (waits_none _ c.args.batch.now c.requires.empty)))
+    (c.in_err-count.ensures.damaged (search rules)))
 
 pub returns-in_err-finish-clause-stopped : goal.returns-in_err-finish-clause-stopped
 returns-in_err-finish-clause-stopped g c =
@@ -114,9 +122,9 @@ returns-in_err-finish-clause-stopped g c =
     let n : Named = named d1.seen c.in_ok-prepared.prepared.held in
     let known = knows d0.seen d1.seen a c.in_ok-prepared.prepared.held n c.of.ensures.rests.seen c.in_ok-prepared.ensures.kept.types c.in_ok-prepared.ensures.kept.version c.in_ok-prepared.ensures.kept.records refl in
     on_err c.from_residual-in_err-finish.result _
-    (last_halted d0.seen d1.seen a n c.as_slice-names.result.now c.as_slice-fronts.result.now c.words_stand.ensures c.heads_stand.ensures (c.as_slice-names.ensures ∙ c.in_ok-prepared.ensures.kept.files) (c.as_slice-fronts.ensures ∙ c.in_ok-prepared.ensures.kept.segments) c.requires.opens known c.of.ensures.rests.seen q (g.K.Sink.written c.args.out.now) (g.K.Sink.written c.finish.new.out) c.args.batch.now (state (g.K.Sink.written c.print_segments.new.out) c.print_segments.new.batch c.print_segments.new.expanded) c.args.expanded.now c.finish.new.expanded c.args.opened.now c.print_segments.new.opened c.in_ok-count.count c.requires.empty
-    (subst (λ (s : Scope). SearchedFronts d1.seen s.names s.files s.query c.as_slice-fronts.result.now (state (g.K.Sink.written c.args.out.now) c.args.batch.now c.args.expanded.now) (state (g.K.Sink.written c.print_segments.new.out) c.print_segments.new.batch c.print_segments.new.expanded) c.args.opened.now c.print_segments.new.opened c.in_ok-count.count) c.new-context.ensures c.in_ok-count.ensures.done)
-    (subst (λ (s : Scope). Halts s.names s.query [] (state (g.K.Sink.written c.print_segments.new.out) c.print_segments.new.batch c.print_segments.new.expanded) (g.K.Sink.written c.finish.new.out) c.finish.new.expanded) c.new-context.ensures c.in_err-finish.ensures.stopped))
+    (last_halted d0.seen d1.seen a n c.as_slice-names.result.now c.as_slice-fronts.result.now c.words_stand.ensures c.heads_stand.ensures (c.as_slice-names.ensures ∙ c.in_ok-prepared.ensures.kept.files) (c.as_slice-fronts.ensures ∙ c.in_ok-prepared.ensures.kept.segments) c.requires.opens known c.of.ensures.rests.seen q (g.K.Sink.written c.args.out.now) (g.K.Sink.written c.finish.new.out) c.args.batch.now (state (g.K.Sink.written c.search_fronts.new.out) c.search_fronts.new.batch c.search_fronts.new.expanded) c.args.expanded.now c.finish.new.expanded c.args.opened.now c.search_fronts.new.opened c.in_ok-count.count c.requires.empty
+    (subst (λ (s : Scope). SearchedFronts d1.seen s.names s.files s.query c.as_slice-fronts.result.now (state (g.K.Sink.written c.args.out.now) c.args.batch.now c.args.expanded.now) (state (g.K.Sink.written c.search_fronts.new.out) c.search_fronts.new.batch c.search_fronts.new.expanded) c.args.opened.now c.search_fronts.new.opened c.in_ok-count.count) c.new-context.ensures c.in_ok-count.ensures.done)
+    (subst (λ (s : Scope). Halts s.names s.query [] (state (g.K.Sink.written c.search_fronts.new.out) c.search_fronts.new.batch c.search_fronts.new.expanded) (g.K.Sink.written c.finish.new.out) c.finish.new.expanded) c.new-context.ensures c.in_err-finish.ensures.stopped))
 
 pub returns-in_err-finish-clause-damaged : goal.returns-in_err-finish-clause-damaged
 returns-in_err-finish-clause-damaged g c = λ is.
@@ -126,9 +134,9 @@ returns-in_err-finish-clause-damaged g c = λ is.
     let a = c.args.places in
     let n : Named = named d1.seen c.in_ok-prepared.prepared.held in
     let known = knows d0.seen d1.seen a c.in_ok-prepared.prepared.held n c.of.ensures.rests.seen c.in_ok-prepared.ensures.kept.types c.in_ok-prepared.ensures.kept.version c.in_ok-prepared.ensures.kept.records refl in
-    last_blamed d0.seen d1.seen a n c.as_slice-names.result.now c.as_slice-fronts.result.now c.words_stand.ensures c.heads_stand.ensures (c.as_slice-names.ensures ∙ c.in_ok-prepared.ensures.kept.files) (c.as_slice-fronts.ensures ∙ c.in_ok-prepared.ensures.kept.segments) c.requires.opens known c.of.ensures.rests.seen q (g.K.Sink.written c.args.out.now) c.args.batch.now (state (g.K.Sink.written c.print_segments.new.out) c.print_segments.new.batch c.print_segments.new.expanded) c.args.expanded.now c.args.opened.now c.print_segments.new.opened c.in_ok-count.count c.requires.empty
-    (subst (λ (s : Scope). SearchedFronts d1.seen s.names s.files s.query c.as_slice-fronts.result.now (state (g.K.Sink.written c.args.out.now) c.args.batch.now c.args.expanded.now) (state (g.K.Sink.written c.print_segments.new.out) c.print_segments.new.batch c.print_segments.new.expanded) c.args.opened.now c.print_segments.new.opened c.in_ok-count.count) c.new-context.ensures c.in_ok-count.ensures.done)
-    (subst (λ (s : Scope). Blames s.names c.print_segments.new.batch.pages ⊥) c.new-context.ensures (c.in_err-finish.ensures.damaged (search rules)))
+    last_blamed d0.seen d1.seen a n c.as_slice-names.result.now c.as_slice-fronts.result.now c.words_stand.ensures c.heads_stand.ensures (c.as_slice-names.ensures ∙ c.in_ok-prepared.ensures.kept.files) (c.as_slice-fronts.ensures ∙ c.in_ok-prepared.ensures.kept.segments) c.requires.opens known c.of.ensures.rests.seen q (g.K.Sink.written c.args.out.now) c.args.batch.now (state (g.K.Sink.written c.search_fronts.new.out) c.search_fronts.new.batch c.search_fronts.new.expanded) c.args.expanded.now c.args.opened.now c.search_fronts.new.opened c.in_ok-count.count c.requires.empty
+    (subst (λ (s : Scope). SearchedFronts d1.seen s.names s.files s.query c.as_slice-fronts.result.now (state (g.K.Sink.written c.args.out.now) c.args.batch.now c.args.expanded.now) (state (g.K.Sink.written c.search_fronts.new.out) c.search_fronts.new.batch c.search_fronts.new.expanded) c.args.opened.now c.search_fronts.new.opened c.in_ok-count.count) c.new-context.ensures c.in_ok-count.ensures.done)
+    (subst (λ (s : Scope). Blames s.names c.search_fronts.new.batch.pages ⊥) c.new-context.ensures (c.in_err-finish.ensures.damaged (search rules)))
 
 pub returns-clause-done : goal.returns-clause-done
 returns-clause-done g c =
@@ -138,8 +146,8 @@ returns-clause-done g c =
     let a = c.args.places in
     let n : Named = named d1.seen c.in_ok-prepared.prepared.held in
     let known = knows d0.seen d1.seen a c.in_ok-prepared.prepared.held n c.of.ensures.rests.seen c.in_ok-prepared.ensures.kept.types c.in_ok-prepared.ensures.kept.version c.in_ok-prepared.ensures.kept.records refl in
-    all_searched d0.seen d1.seen a n c.as_slice-names.result.now c.as_slice-fronts.result.now c.words_stand.ensures c.heads_stand.ensures (c.as_slice-names.ensures ∙ c.in_ok-prepared.ensures.kept.files) (c.as_slice-fronts.ensures ∙ c.in_ok-prepared.ensures.kept.segments) c.requires.opens known c.of.ensures.rests.seen q c.counts-counts.result c.in_ok-count.count (g.K.Sink.written c.args.out.now) (g.K.Sink.written c.finish.new.out) c.args.batch.now c.finish.new.self (state (g.K.Sink.written c.print_segments.new.out) c.print_segments.new.batch c.print_segments.new.expanded) c.args.opened.now c.print_segments.new.opened c.args.expanded.now
+    all_searched d0.seen d1.seen a n c.as_slice-names.result.now c.as_slice-fronts.result.now c.words_stand.ensures c.heads_stand.ensures (c.as_slice-names.ensures ∙ c.in_ok-prepared.ensures.kept.files) (c.as_slice-fronts.ensures ∙ c.in_ok-prepared.ensures.kept.segments) c.requires.opens known c.of.ensures.rests.seen q c.counts-counts.result c.in_ok-count.count (g.K.Sink.written c.args.out.now) (g.K.Sink.written c.finish.new.out) c.args.batch.now c.finish.new.self (state (g.K.Sink.written c.search_fronts.new.out) c.search_fronts.new.batch c.search_fronts.new.expanded) c.args.opened.now c.search_fronts.new.opened c.args.expanded.now
     c.finish.new.expanded c.requires.empty c.counts-counts.ensures
-    (subst (λ (s : Scope). SearchedFronts d1.seen s.names s.files s.query c.as_slice-fronts.result.now (state (g.K.Sink.written c.args.out.now) c.args.batch.now c.args.expanded.now) (state (g.K.Sink.written c.print_segments.new.out) c.print_segments.new.batch c.print_segments.new.expanded) c.args.opened.now c.print_segments.new.opened c.in_ok-count.count) c.new-context.ensures c.in_ok-count.ensures.done)
-    (subst (λ (s : Scope). Reaches s.names s.query [] (state (g.K.Sink.written c.print_segments.new.out) c.print_segments.new.batch c.print_segments.new.expanded) (state (g.K.Sink.written c.finish.new.out) c.finish.new.self c.finish.new.expanded)) c.new-context.ensures c.in_ok-finish.ensures.done)
+    (subst (λ (s : Scope). SearchedFronts d1.seen s.names s.files s.query c.as_slice-fronts.result.now (state (g.K.Sink.written c.args.out.now) c.args.batch.now c.args.expanded.now) (state (g.K.Sink.written c.search_fronts.new.out) c.search_fronts.new.batch c.search_fronts.new.expanded) c.args.opened.now c.search_fronts.new.opened c.in_ok-count.count) c.new-context.ensures c.in_ok-count.ensures.done)
+    (subst (λ (s : Scope). Reaches s.names s.query [] (state (g.K.Sink.written c.search_fronts.new.out) c.search_fronts.new.batch c.search_fronts.new.expanded) (state (g.K.Sink.written c.finish.new.out) c.finish.new.self c.finish.new.expanded)) c.new-context.ensures c.in_ok-finish.ensures.done)
     c.in_ok-finish.ensures.empty

@@ -1,0 +1,31 @@
+use Rattle.std.proofs.Common.{◌∙◌, All, ap, arith, length, subst, sym}
+use Rattle.search_walk.proofs.AnswerLemmas.{if_ok_to, on_err_to}
+use Rattle.search_engine.specs.Lanes.{FaultsOf, IsLane}
+use Rattle.search_engine.proofs.TurnLemmas.{back_whole, counts_of}
+use Rattle.search_engine.proofs.beside.search_lent.Goals as goal
+
+pub returns-clause-reads : goal.returns-clause-reads
+returns-clause-reads g c = λ s lanes.
+    let d = g.D.Disk.state c.args.disk.now in
+    let is = c.as_mut_slice.ensures.value in
+    let whole = back_whole c.args.lanes.len c.search_turns-answer.new.lanes c.args.lanes.items (omega (arith, c.args.lanes.ok.0)) (c.search_turns-answer.ensures.len ∙ ap length is) in
+    c.take_back_all.ensures.reads s c.args.fronts.now
+    (subst (λ l. All (IsLane g.D.Part.Disk.state d s c.args.fronts.now) l) (sym whole) (c.search_turns-answer.ensures.lanes s (subst (λ l. All (IsLane g.D.Part.Disk.state d s c.args.fronts.now) l) (sym is) lanes)))
+
+pub returns-clause-done : goal.returns-clause-done
+returns-clause-done g c =
+    if_ok_to c.search_turns-answer.result _ _ (λ count done s lanes. done s (subst (λ l. All (IsLane g.D.Part.Disk.state (g.D.Disk.state c.args.disk.now) s c.args.fronts.now) l) (sym c.as_mut_slice.ensures.value) lanes)) c.search_turns-answer.ensures.done
+
+pub returns-clause-stopped : goal.returns-clause-stopped
+returns-clause-stopped g c =
+    on_err_to c.search_turns-answer.result _ _ (λ stopped s lanes. stopped s (subst (λ l. All (IsLane g.D.Part.Disk.state (g.D.Disk.state c.args.disk.now) s c.args.fronts.now) l) (sym c.as_mut_slice.ensures.value) lanes)) c.search_turns-answer.ensures.stopped
+
+pub returns-clause-damaged : goal.returns-clause-damaged
+returns-clause-damaged g c = λ is s lanes.
+    c.search_turns-answer.ensures.damaged is s (subst (λ l. All (IsLane g.D.Part.Disk.state (g.D.Disk.state c.args.disk.now) s c.args.fronts.now) l) (sym c.as_mut_slice.ensures.value) lanes)
+
+pub returns-clause-disk_counts : goal.returns-clause-disk_counts
+returns-clause-disk_counts g c =
+    let whole = back_whole c.args.lanes.len c.search_turns-answer.new.lanes c.args.lanes.items (omega (arith, c.args.lanes.ok.0)) (c.search_turns-answer.ensures.len ∙ ap length c.as_mut_slice.ensures.value) in
+    counts_of g.D.Part.Disk.state _ _ _ c.search_turns-answer.result (subst (λ l. FaultsOf g.D.Part.Disk.state l c.search_turns-answer.result) (sym whole) c.search_turns-answer.ensures.faults)
+    c.take_back_all.ensures.later c.take_back_all.ensures.steady c.take_back_all.ensures.rose

@@ -1,0 +1,104 @@
+use Rattle.std.specs.Prelude.{Err}
+use Rattle.std.proofs.lemmas.Result.{err_from_is_err_and}
+use Rattle.std.proofs.Common.{◌≡◌, ◌++◌, ◌∙◌, ap, arith, length, length-append, refl, rules, subst, sym, All, List, []}
+use Rattle.std.proofs.lemmas.List.{append_assoc}
+use Rattle.archive_places.specs.declared.front.SegmentFront.{SegmentFront}
+use Rattle.search_walk.specs.Opened.{NoFronts}
+use Rattle.search_walk.proofs.AnswerLemmas.{on_err}
+use Rattle.search_engine.specs.Lanes.{IsLane}
+use Rattle.search_engine.specs.SegmentsDone.{SearchedFronts, StoppedFronts}
+use Rattle.search_engine.specs.StepsWaiting.{reaches_none}
+use Rattle.search_engine.specs.Waiting.{Reaches, state}
+use Rattle.search_engine.proofs.FrontsLemmas.{fronts_none, none_second}
+use Rattle.search_engine.proofs.LaneListLemmas.{searched_on, stopped_on}
+use Rattle.search_engine.proofs.TurnLemmas.{counts_on, faults_on, fresh_faults, no_fronts_left, none_left}
+use Rattle.search_engine.proofs.turns.search_turns.Goals as goal
+
+pub loop-left-init : goal.loop-left-init
+loop-left-init g c = record {
+  gone = [];
+  parts = refl;
+  most = search rules;
+  len = refl;
+  fresh = c.requires.fresh;
+  lanes = λ s lanes. lanes;
+  searched = λ s lanes.
+      let a = state (g.K.Sink.written c.args.out.now) c.args.batch.now c.args.expanded.now in
+      fronts_none (λ l. Reaches s.names s.query l a a) (g.D.Disk.state c.args.lender.now).seen s.names s.files s.query _ (reaches_none s.names s.query a);
+  empty = c.requires.empty;
+  faults = refl;
+}
+
+pub loop-left-preserved : goal.loop-left-preserved
+loop-left-preserved g c =
+    let inv = c.loop-left.invariant in
+    let turn = c.in_ok-later.ensures.done in
+    let d = g.D.Disk.state c.args.lender.now in
+    record {
+      gone = inv.gone ++ turn.chunk;
+      parts = inv.parts ∙ ap (λ (f : List SegmentFront). inv.gone ++ f) turn.parts ∙ sym (append_assoc inv.gone turn.chunk _);
+      most = omega (arith, inv.most, turn.most, length-append inv.gone turn.chunk);
+      len = c.run_turn.ensures.len ∙ inv.len;
+      fresh = c.in_ok-later.ensures.fresh;
+      lanes = λ s lanes.
+          subst (λ (f : List SegmentFront). All (IsLane g.P.Disk.state d s f) c.run_turn.new.lanes) (sym inv.parts)
+          (c.run_turn.ensures.lanes s inv.gone (subst (λ (f : List SegmentFront). All (IsLane g.P.Disk.state d s f) c.loop-left.lanes) inv.parts (inv.lanes s lanes)));
+      searched = λ s lanes.
+          searched_on d.seen s inv.gone turn.chunk _ _ _ _ _ _ c.loop-left.count _ (inv.searched s lanes)
+          (turn.went s inv.gone (subst (λ (f : List SegmentFront). All (IsLane g.P.Disk.state d s f) c.loop-left.lanes) inv.parts (inv.lanes s lanes)));
+      empty = c.in_ok-later.ensures.empty;
+      faults = search rules;
+    }
+
+pub returns-in_err-later-clause-lanes : goal.returns-in_err-later-clause-lanes
+returns-in_err-later-clause-lanes g c = λ s lanes.
+    let inv = c.loop-left.invariant in
+    let d = g.D.Disk.state c.args.lender.now in
+    subst (λ (f : List SegmentFront). All (IsLane g.P.Disk.state d s f) c.run_turn.new.lanes) (sym inv.parts)
+    (c.run_turn.ensures.lanes s inv.gone (subst (λ (f : List SegmentFront). All (IsLane g.P.Disk.state d s f) c.loop-left.lanes) inv.parts (inv.lanes s lanes)))
+
+pub returns-in_err-later-clause-stopped : goal.returns-in_err-later-clause-stopped
+returns-in_err-later-clause-stopped g c =
+    on_err c.from_residual.result _ (λ s lanes.
+    let inv = c.loop-left.invariant in
+    let d = g.D.Disk.state c.args.lender.now in
+    let a = state (g.K.Sink.written c.args.out.now) c.args.batch.now c.args.expanded.now in
+    subst (λ f. StoppedFronts d.seen s.names s.files s.query f a (g.K.Sink.written c.run_turn.new.out) c.run_turn.new.expanded c.args.opened.now c.run_turn.new.opened) (sym inv.parts)
+    (stopped_on d.seen s inv.gone c.loop-left.left.now a _ _ _ _ _ _ c.loop-left.count (inv.searched s lanes)
+    (c.in_err-later.ensures.stopped s inv.gone (subst (λ (f : List SegmentFront). All (IsLane g.P.Disk.state d s f) c.loop-left.lanes) inv.parts (inv.lanes s lanes)))))
+
+pub returns-in_err-later-clause-damaged : goal.returns-in_err-later-clause-damaged
+returns-in_err-later-clause-damaged g c = λ is s lanes.
+    let inv = c.loop-left.invariant in
+    let d = g.D.Disk.state c.args.lender.now in
+    subst (λ f. NoFronts d.seen s.names s.files f) (sym inv.parts)
+    (none_second s.names s.files s.query inv.gone c.loop-left.left.now d.seen
+    (c.in_err-later.ensures.damaged (search (rules, is)) s inv.gone (subst (λ (f : List SegmentFront). All (IsLane g.P.Disk.state d s f) c.loop-left.lanes) inv.parts (inv.lanes s lanes))))
+
+pub returns-in_err-later-clause-faults : goal.returns-in_err-later-clause-faults
+returns-in_err-later-clause-faults g c =
+    let e = c.in_err-later.field-0.0 in
+    let p = err_from_is_err_and c.from_residual.result c.from_residual.ensures.1 in
+    let answer : c.from_residual.result ≡ Err e = cc (p.1, p.2) in
+    faults_on g.P.Disk.state c.run_turn.new.lanes c.run_turn.result c.from_residual.result e c.in_err-later.was answer c.run_turn.ensures.faults
+
+pub returns-in_err-later-clause-sink_counts : goal.returns-in_err-later-clause-sink_counts
+returns-in_err-later-clause-sink_counts g c =
+    let e = c.in_err-later.field-0.0 in
+    let p = err_from_is_err_and c.from_residual.result c.from_residual.ensures.1 in
+    let answer : c.from_residual.result ≡ Err e = cc (p.1, p.2) in
+    counts_on _ _ _ _ c.run_turn.result c.from_residual.result e c.in_err-later.was answer c.loop-left.invariant.faults c.run_turn.ensures.sink_counts
+
+pub returns-clause-lanes : goal.returns-clause-lanes
+returns-clause-lanes g c = λ s lanes. c.loop-left.invariant.lanes s lanes
+
+pub returns-clause-faults : goal.returns-clause-faults
+returns-clause-faults g c = record { some = λ is. absurd (cc (is)); none = λ not. fresh_faults g.P.Disk.state c.loop-left.lanes c.loop-left.invariant.fresh }
+
+pub returns-clause-done : goal.returns-clause-done
+returns-clause-done g c = λ s lanes.
+    let inv = c.loop-left.invariant in
+    let d = g.D.Disk.state c.args.lender.now in
+    let a = state (g.K.Sink.written c.args.out.now) c.args.batch.now c.args.expanded.now in
+    let b = state (g.K.Sink.written c.loop-left.out) c.loop-left.batch c.loop-left.expanded in
+    subst (λ f. SearchedFronts d.seen s.names s.files s.query f a b c.args.opened.now c.loop-left.opened c.loop-left.count) (sym (no_fronts_left c.args.fronts.now inv.gone c.loop-left.left.now (none_left c.loop-left.left.now (sym c.is_empty.ensures ∙ c.loop-left-test.false)) inv.parts)) (inv.searched s lanes)
