@@ -20,7 +20,7 @@ use command_words::BenchWords;
 use disk_journal::create;
 use file_outcomes::{FileReport, report_taken};
 use generated_logs::GeneratedShelf;
-use log_seams::{Disk, Sink};
+use log_seams::{SharedDisk, Sink};
 use logtype_text::one_list_of_parts;
 use record_format::{Header, MAX_ARCHIVE_LEN, MAX_WORDS};
 use std::alloc::Global;
@@ -67,7 +67,7 @@ fn messages_of(files: &[FileReport<'_>]) -> u128
 }
 
 /// Tells what came of the logs: those that are not whole, or the summary of the archive.
-fn sum_up<R: Threads + Sync, D: Disk, K: Sink>(
+fn sum_up<R: Threads + Sync, D: SharedDisk, K: Sink>(
     rt: &R,
     alloc: Global,
     files: &[FileReport<'_>],
@@ -78,9 +78,10 @@ fn sum_up<R: Threads + Sync, D: Disk, K: Sink>(
     ensures told { (logs : List ℕ → Option (List ℕ))
         → AroundSinks K.written K.faults out.old out.new err.old err.new (λ seen.
         TellsParts (map (came_of logs) files.now) seen result
-        ⊎ SumsUp (map (came_of logs) files.now) seen (D.state disk.old) (D.state disk.new) result) }
-    ensures keeps { KeepsBytes (D.state disk.old) (D.state disk.new) }
-    ensures disk { (D.state disk.old).faults ≤ (D.state disk.new).faults }
+        ⊎ SumsUp (map (came_of logs) files.now) seen
+        (D.Disk.state disk.old) (D.Disk.state disk.new) result) }
+    ensures keeps { KeepsBytes (D.Disk.state disk.old) (D.Disk.state disk.new) }
+    ensures disk { (D.Disk.state disk.old).faults ≤ (D.Disk.state disk.new).faults }
     ensures out { K.faults out.old ≤ K.faults out.new }
     ensures err { K.faults err.old ≤ K.faults err.new }
 {
@@ -95,7 +96,7 @@ fn sum_up<R: Threads + Sync, D: Disk, K: Sink>(
 }
 
 /// Takes the four logs into the archive of a disk, and tells what came of them.
-fn add_logs<R: Threads + Wait + Sync, D: Disk + Send, K: Sink>(
+fn add_logs<R: Threads + Wait + Sync, D: SharedDisk + Send, K: Sink>(
     rt: &R,
     alloc: Global,
     asked: BenchWords,
@@ -105,11 +106,11 @@ fn add_logs<R: Threads + Wait + Sync, D: Disk + Send, K: Sink>(
 ) -> u8
     requires lines { asked.lines ≤ 1000000 }
     requires workers { (1 ≤ asked.workers) × (asked.workers ≤ MAX_WORKERS) }
-    requires archive { IfSome (D.state disk.old).seen IsArchive }
+    requires archive { IfSome (D.Disk.state disk.old).seen IsArchive }
     ensures ends { AroundSinks K.written K.faults out.old out.new err.old err.new (λ seen.
         EndsLogs (content_of asked.number asked.lines) asked.workers seen
-        (D.state disk.old) (D.state disk.new) result) }
-    ensures goes_on { DiskGoesOn (D.state disk.old) (D.state disk.new) }
+        (D.Disk.state disk.old) (D.Disk.state disk.new) result) }
+    ensures goes_on { DiskGoesOn (D.Disk.state disk.old) (D.Disk.state disk.new) }
     ensures out { K.faults out.old ≤ K.faults out.new }
     ensures err { K.faults err.old ≤ K.faults err.new }
 {
@@ -135,7 +136,7 @@ fn add_logs<R: Threads + Wait + Sync, D: Disk + Send, K: Sink>(
 /// Makes an archive with the default limits on an empty disk, takes the four generated logs into it,
 /// and prints how many messages there are, how many of them a pattern matches, and how many segments
 /// there are. Where a log is not whole, its line goes to `err` and nothing is printed.
-pub fn bench<R: Threads + Wait + Sync, D: Disk + Send, K: Sink>(
+pub fn bench<R: Threads + Wait + Sync, D: SharedDisk + Send, K: Sink>(
     rt: &R,
     alloc: Global,
     asked: BenchWords,
@@ -147,10 +148,10 @@ pub fn bench<R: Threads + Wait + Sync, D: Disk + Send, K: Sink>(
     requires workers { (1 ≤ asked.workers) × (asked.workers ≤ MAX_WORKERS) }
     ensures answers { AroundSinks K.written K.faults out.old out.new err.old err.new (λ seen.
         AnswersBench asked.number asked.lines asked.workers seen
-        (D.state disk.old) (D.state disk.new) result) }
+        (D.Disk.state disk.old) (D.Disk.state disk.new) result) }
 
     // whatever the answer
-    ensures goes_on { DiskGoesOn (D.state disk.old) (D.state disk.new) }
+    ensures goes_on { DiskGoesOn (D.Disk.state disk.old) (D.Disk.state disk.new) }
     ensures out { K.faults out.old ≤ K.faults out.new }
     ensures err { K.faults err.old ≤ K.faults err.new }
 {

@@ -12,7 +12,7 @@ ghost use Rattle.command_answers.specs.Benched.{AreCounted, PrintsSummary, sough
 use archive_places::open_places;
 use column_store::Range;
 use command_refusals::ReadRefusal;
-use log_seams::{Disk, Failed, Sink};
+use log_seams::{Failed, SharedDisk, Sink};
 use query_plan::wide_is_wider;
 use search_engine::{Report, search};
 use search_refusals::of_search;
@@ -52,7 +52,7 @@ fn read_sought(alloc: Global) -> Result<Pattern, ReadRefusal>
 }
 
 // The search, with counters that nobody reads.
-fn count_with<R: Threads + Sync, D: Disk, L: Ledger, M: Ledger>(
+fn count_with<R: Threads + Sync, D: SharedDisk, L: Ledger, M: Ledger>(
     rt: &R,
     alloc: Global,
     disk: &mut D,
@@ -61,15 +61,15 @@ fn count_with<R: Threads + Sync, D: Disk, L: Ledger, M: Ledger>(
 ) -> Result<Report, ReadRefusal>
     requires opened { OpensFor opened L.name L.parts }
     requires expanded { OpensFor expanded M.name M.parts }
-    ensures keeps { KeepsBytes (D.state disk.old) (D.state disk.new) }
-    ensures counted { IfOk result (λ r. OfJournal (D.state disk.old).seen
+    ensures keeps { KeepsBytes (D.Disk.state disk.old) (D.Disk.state disk.new) }
+    ensures counted { IfOk result (λ r. OfJournal (D.Disk.state disk.old).seen
         (λ h es held. AreCounted h es held r.matched r.segments)) }
 
     // causes
     ensures damaged { (at : ℕ) → IsErrOf result (ReadRefusal.Damaged at)
-        → RefusedAt at (D.state disk.old).seen }
+        → RefusedAt at (D.Disk.state disk.old).seen }
     ensures disk { CountsOf ReadRefusal.DiskFault
-        (D.state disk.old).faults (D.state disk.new).faults result }
+        (D.Disk.state disk.old).faults (D.Disk.state disk.new).faults result }
     ensures sink { ¬ IsErrOf result ReadRefusal.SinkFault }
 {
     let pattern = read_sought(alloc)?;
@@ -101,20 +101,20 @@ fn count_with<R: Threads + Sync, D: Disk, L: Ledger, M: Ledger>(
 }
 
 /// Opens the archive of a disk, and counts the messages that are found, and the segments.
-fn count<R: Threads + Sync, D: Disk>(
+fn count<R: Threads + Sync, D: SharedDisk>(
     rt: &R,
     alloc: Global,
     disk: &mut D,
 ) -> Result<Report, ReadRefusal>
-    ensures keeps { KeepsBytes (D.state disk.old) (D.state disk.new) }
-    ensures counted { IfOk result (λ r. OfJournal (D.state disk.old).seen
+    ensures keeps { KeepsBytes (D.Disk.state disk.old) (D.Disk.state disk.new) }
+    ensures counted { IfOk result (λ r. OfJournal (D.Disk.state disk.old).seen
         (λ h es held. AreCounted h es held r.matched r.segments)) }
 
     // causes
     ensures damaged { (at : ℕ) → IsErrOf result (ReadRefusal.Damaged at)
-        → RefusedAt at (D.state disk.old).seen }
+        → RefusedAt at (D.Disk.state disk.old).seen }
     ensures disk { CountsOf ReadRefusal.DiskFault
-        (D.state disk.old).faults (D.state disk.new).faults result }
+        (D.Disk.state disk.old).faults (D.Disk.state disk.new).faults result }
     ensures sink { ¬ IsErrOf result ReadRefusal.SinkFault }
 {
     count_with::<R, D, Brand, Brand>(rt, alloc, disk, Blank::new(1), Blank::new(1))
@@ -138,22 +138,22 @@ fn summary_line(alloc: Global, messages: u128, report: &Report) -> Result<Vec<u8
 }
 
 /// Opens the archive of a disk, and prints its summary, with so many messages.
-pub(crate) fn summarize<R: Threads + Sync, D: Disk, K: Sink>(
+pub(crate) fn summarize<R: Threads + Sync, D: SharedDisk, K: Sink>(
     rt: &R,
     alloc: Global,
     messages: u128,
     disk: &mut D,
     out: &mut K,
 ) -> Result<(), ReadRefusal>
-    ensures keeps { KeepsBytes (D.state disk.old) (D.state disk.new) }
+    ensures keeps { KeepsBytes (D.Disk.state disk.old) (D.Disk.state disk.new) }
     ensures prints { PrintsSummary (is_ok result) messages
-        (D.state disk.old).seen (K.written out.old) (K.written out.new) }
+        (D.Disk.state disk.old).seen (K.written out.old) (K.written out.new) }
 
     // causes
     ensures damaged { (at : ℕ) → IsErrOf result (ReadRefusal.Damaged at)
-        → RefusedAt at (D.state disk.old).seen }
+        → RefusedAt at (D.Disk.state disk.old).seen }
     ensures disk { CountsOf ReadRefusal.DiskFault
-        (D.state disk.old).faults (D.state disk.new).faults result }
+        (D.Disk.state disk.old).faults (D.Disk.state disk.new).faults result }
     ensures sink { CountsOf ReadRefusal.SinkFault (K.faults out.old) (K.faults out.new) result }
 {
     let report = count(rt, alloc, disk)?;

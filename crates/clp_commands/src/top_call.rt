@@ -14,7 +14,7 @@ use crate::without_turns::run_without_turns;
 use bench_command::bench;
 use command_words::Command;
 use file_outcomes::Base;
-use log_seams::{Disk, Shelf, Sink};
+use log_seams::{SharedDisk, Shelf, Sink};
 use merge_command::merge_archives;
 use std::alloc::Global;
 use std::marker::Brand;
@@ -44,7 +44,7 @@ use write_commands::{NewLogs, ingest_files};
 /// the disk had at the start: whatever archive it had, and it is not asked for when the program runs.
 /// `rt` starts the threads of `ingest`, `upgrade`, `bench` and `search`. All but `ingest`, `merge`,
 /// `upgrade` and `bench` is done by [`run_without_turns`], which returns on every input.
-pub fn run<R: Threads + Wait + Sync, H: Shelf, D: Disk + Send, K: Sink + Send>(
+pub fn run<R: Threads + Wait + Sync, H: Shelf, D: SharedDisk + Send, K: Sink + Send>(
     rt: &R,
     alloc: Global,
     words: &[String],
@@ -63,7 +63,8 @@ where
     ensures answers { Answers known (map string_bytes words.now)
         (around H.content H.unread H.open_faults H.read_faults K.written K.faults
         shelf.old shelf.new out.old out.new err.old err.new)
-        (D.state disk.old) (D.state disk.new) (D.state second.old) (D.state second.new) result }
+        (D.Disk.state disk.old) (D.Disk.state disk.new)
+        (D.Disk.state second.old) (D.Disk.state second.new) result }
     ensures one_failed { (pattern file : List ℕ)
         → Asks (map string_bytes words.now) (to_show file)
         ⊎ Asks (map string_bytes words.now) (to_scan pattern file)
@@ -75,13 +76,13 @@ where
     ensures outside { OutsideGoesOn
         (around H.content H.unread H.open_faults H.read_faults K.written K.faults
         shelf.old shelf.new out.old out.new err.old err.new) }
-    ensures goes_on { DiskGoesOn (D.state disk.old) (D.state disk.new) }
-    ensures second_goes_on { DiskGoesOn (D.state second.old) (D.state second.new) }
+    ensures goes_on { DiskGoesOn (D.Disk.state disk.old) (D.Disk.state disk.new) }
+    ensures second_goes_on { DiskGoesOn (D.Disk.state second.old) (D.Disk.state second.new) }
 
     // what stays
     ensures logs { (name : List ℕ) → H.content shelf.new name ≡ H.content shelf.old name }
     ensures keeps { AskNoWriting (map string_bytes words.now)
-        → KeepsBytes (D.state disk.old) (D.state disk.new) }
+        → KeepsBytes (D.Disk.state disk.old) (D.Disk.state disk.new) }
     ensures untouched { AskNoArchive (map string_bytes words.now) → disk.new ≡ disk.old }
     ensures second { AskNoSecond (map string_bytes words.now) → second.new ≡ second.old }
 {
@@ -94,7 +95,7 @@ where
 }
 
 /// Does what a command asks for that may wait for a turn of a lock, and answers the status.
-fn take_turns<R: Threads + Wait + Sync, H: Shelf, D: Disk + Send, K: Sink + Send, B: Base>(
+fn take_turns<R: Threads + Wait + Sync, H: Shelf, D: SharedDisk + Send, K: Sink + Send, B: Base>(
     rt: &R,
     alloc: Global,
     command: &Command<'_>,
@@ -111,19 +112,20 @@ where
     ensures answers { AnswersAsked B.archive (asked_by command.now)
         (around H.content H.unread H.open_faults H.read_faults K.written K.faults
         shelf.old shelf.new out.old out.new err.old err.new)
-        (D.state disk.old) (D.state disk.new) (D.state second.old) (D.state second.new) result }
+        (D.Disk.state disk.old) (D.Disk.state disk.new)
+        (D.Disk.state second.old) (D.Disk.state second.new) result }
 
     // whatever it asks for
     ensures outside { OutsideGoesOn
         (around H.content H.unread H.open_faults H.read_faults K.written K.faults
         shelf.old shelf.new out.old out.new err.old err.new) }
-    ensures goes_on { DiskGoesOn (D.state disk.old) (D.state disk.new) }
-    ensures second_goes_on { DiskGoesOn (D.state second.old) (D.state second.new) }
+    ensures goes_on { DiskGoesOn (D.Disk.state disk.old) (D.Disk.state disk.new) }
+    ensures second_goes_on { DiskGoesOn (D.Disk.state second.old) (D.Disk.state second.new) }
 
     // what stays
     ensures logs { (name : List ℕ) → H.content shelf.new name ≡ H.content shelf.old name }
     ensures keeps { ¬ MayWrite (asked_by command.now)
-        → KeepsBytes (D.state disk.old) (D.state disk.new) }
+        → KeepsBytes (D.Disk.state disk.old) (D.Disk.state disk.new) }
     ensures second { ¬ UsesSecond (asked_by command.now) → second.new ≡ second.old }
 {
     match command {

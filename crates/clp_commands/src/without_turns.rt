@@ -17,7 +17,7 @@ use command_words::{Command, read_words};
 use count_command::count_messages;
 use disk_journal::create;
 use log_commands::{scan, show};
-use log_seams::{Disk, Shelf, Sink};
+use log_seams::{SharedDisk, Shelf, Sink};
 use read_commands::{check, decode_file, files, search_messages};
 use std::alloc::Global;
 use std::thread::Threads;
@@ -29,7 +29,7 @@ use std::thread::Threads;
 /// # Errors
 ///
 /// The command that the words ask for, where that may wait for a turn. Nothing was done then.
-pub fn run_without_turns<'a, R: Threads + Sync, H: Shelf, D: Disk, K: Sink>(
+pub fn run_without_turns<'a, R: Threads + Sync, H: Shelf, D: SharedDisk, K: Sink>(
     rt: &R,
     alloc: Global,
     words: &'a [String],
@@ -43,7 +43,8 @@ pub fn run_without_turns<'a, R: Threads + Sync, H: Shelf, D: Disk, K: Sink>(
         → Answers known (map string_bytes words.entry.now)
         (around H.content H.unread H.open_faults H.read_faults K.written K.faults
         shelf.old shelf.new out.old out.new err.old err.new)
-        (D.state disk.old) (D.state disk.new) (D.state second) (D.state second) status) }
+        (D.Disk.state disk.old) (D.Disk.state disk.new)
+        (D.Disk.state second) (D.Disk.state second) status) }
     ensures one_failed { (pattern file : List ℕ)
         → Asks (map string_bytes words.entry.now) (to_show file)
         ⊎ Asks (map string_bytes words.entry.now) (to_scan pattern file)
@@ -58,12 +59,12 @@ pub fn run_without_turns<'a, R: Threads + Sync, H: Shelf, D: Disk, K: Sink>(
     ensures outside { OutsideGoesOn
         (around H.content H.unread H.open_faults H.read_faults K.written K.faults
         shelf.old shelf.new out.old out.new err.old err.new) }
-    ensures goes_on { DiskGoesOn (D.state disk.old) (D.state disk.new) }
+    ensures goes_on { DiskGoesOn (D.Disk.state disk.old) (D.Disk.state disk.new) }
 
     // what stays
     ensures logs { (name : List ℕ) → H.content shelf.new name ≡ H.content shelf.old name }
     ensures keeps { AskNoWriting (map string_bytes words.entry.now)
-        → KeepsBytes (D.state disk.old) (D.state disk.new) }
+        → KeepsBytes (D.Disk.state disk.old) (D.Disk.state disk.new) }
     ensures untouched { AskNoArchive (map string_bytes words.entry.now) → disk.new ≡ disk.old }
 {
     let command = match read_words(alloc, words) {
@@ -77,7 +78,7 @@ pub fn run_without_turns<'a, R: Threads + Sync, H: Shelf, D: Disk, K: Sink>(
 }
 
 /// Does what a command asks for, and answers the status; none where it may wait for a turn.
-fn carry_out<R: Threads + Sync, H: Shelf, D: Disk, K: Sink>(
+fn carry_out<R: Threads + Sync, H: Shelf, D: SharedDisk, K: Sink>(
     rt: &R,
     alloc: Global,
     command: &Command<'_>,
@@ -92,7 +93,8 @@ fn carry_out<R: Threads + Sync, H: Shelf, D: Disk, K: Sink>(
         → AnswersAsked known (asked_by command.now)
         (around H.content H.unread H.open_faults H.read_faults K.written K.faults
         shelf.old shelf.new out.old out.new err.old err.new)
-        (D.state disk.old) (D.state disk.new) (D.state second) (D.state second) status) }
+        (D.Disk.state disk.old) (D.Disk.state disk.new)
+        (D.Disk.state second) (D.Disk.state second) status) }
     ensures one_failed { (pattern file : List ℕ)
         → (asked_by command.now ≡ to_show file) ⊎ (asked_by command.now ≡ to_scan pattern file)
         → H.read_faults shelf.old file < H.read_faults shelf.new file
@@ -106,12 +108,12 @@ fn carry_out<R: Threads + Sync, H: Shelf, D: Disk, K: Sink>(
     ensures outside { OutsideGoesOn
         (around H.content H.unread H.open_faults H.read_faults K.written K.faults
         shelf.old shelf.new out.old out.new err.old err.new) }
-    ensures goes_on { DiskGoesOn (D.state disk.old) (D.state disk.new) }
+    ensures goes_on { DiskGoesOn (D.Disk.state disk.old) (D.Disk.state disk.new) }
 
     // what stays
     ensures logs { (name : List ℕ) → H.content shelf.new name ≡ H.content shelf.old name }
     ensures keeps { ¬ MayWrite (asked_by command.now)
-        → KeepsBytes (D.state disk.old) (D.state disk.new) }
+        → KeepsBytes (D.Disk.state disk.old) (D.Disk.state disk.new) }
     ensures untouched { ¬ UsesArchive (asked_by command.now) → disk.new ≡ disk.old }
 {
     match command {

@@ -6,7 +6,7 @@ mod writing;
 
 use clp_commands::run;
 use host_files::{DiskFile, FilePath, LogFiles, Place, Standard, Stream};
-use log_seams::{Disk, Shelf, Sink};
+use log_seams::{SharedDisk, Shelf, Sink};
 use std::alloc::{AllocError, Global};
 use std::env;
 use std::io::ErrorKind;
@@ -67,7 +67,7 @@ fn disk_at<P: Place>(place: P, may_write: bool) -> DiskFile<P, P::File> {
 }
 
 /// What `run` answers where nothing is known of what the archive's file holds.
-fn answer<R: Threads + Wait + Sync, H: Shelf, D: Disk + Send, K: Sink + Send>(
+fn answer<R: Threads + Wait + Sync, H: Shelf, D: SharedDisk + Send, K: Sink + Send>(
     rt: &R,
     alloc: Global,
     words: &[String],

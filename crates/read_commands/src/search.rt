@@ -16,7 +16,7 @@ use archive_places::open_places;
 use column_store::Range;
 use command_refusals::{ReadRefusal, answer, refusal_of_pattern, refusal_of_read, report};
 use command_words::SearchWords;
-use log_seams::{Disk, Sink};
+use log_seams::{SharedDisk, Sink};
 use query_plan::wide_is_wider;
 use search_engine::{Report, search};
 use search_refusals::of_search;
@@ -78,7 +78,7 @@ struct Wanted<'a> {
 }
 
 /// The search, with counters that nobody reads.
-fn search_with<R: Threads + Sync, D: Disk, K: Sink, L: Ledger, M: Ledger>(
+fn search_with<R: Threads + Sync, D: SharedDisk, K: Sink, L: Ledger, M: Ledger>(
     rt: &R,
     alloc: Global,
     wanted: Wanted<'_>,
@@ -92,20 +92,20 @@ fn search_with<R: Threads + Sync, D: Disk, K: Sink, L: Ledger, M: Ledger>(
     requires searched { IsSearched wanted.pattern.now }
 
     // what stays
-    ensures keeps { KeepsBytes (D.state disk.old) (D.state disk.new) }
+    ensures keeps { KeepsBytes (D.Disk.state disk.old) (D.Disk.state disk.new) }
     ensures reads { SparesBarren (asked wanted.entry.pattern.now wanted.entry.range.now)
-        (D.state disk.old).seen (D.state disk.old).ranges (D.state disk.new).ranges }
+        (D.Disk.state disk.old).seen (D.Disk.state disk.old).ranges (D.Disk.state disk.new).ranges }
 
     // by the answer
     ensures prints { PrintsFound (is_ok result)
         (asked wanted.entry.pattern.now wanted.entry.range.now) wanted.entry.stats
-        (D.state disk.old).seen (K.written out.old) (K.written out.new) }
+        (D.Disk.state disk.old).seen (K.written out.old) (K.written out.new) }
 
     // causes
     ensures damaged { (at : ℕ) → IsErrOf result (ReadRefusal.Damaged at)
-        → RefusedAt at (D.state disk.old).seen }
+        → RefusedAt at (D.Disk.state disk.old).seen }
     ensures disk { CountsOf ReadRefusal.DiskFault
-        (D.state disk.old).faults (D.state disk.new).faults result }
+        (D.Disk.state disk.old).faults (D.Disk.state disk.new).faults result }
     ensures sink { CountsOf ReadRefusal.SinkFault (K.faults out.old) (K.faults out.new) result }
 {
     let places = open_places(alloc, disk)?;
@@ -136,7 +136,7 @@ fn search_with<R: Threads + Sync, D: Disk, K: Sink, L: Ledger, M: Ledger>(
 }
 
 /// Opens the archive of a disk, and prints the messages that are wanted.
-fn search_archive<R: Threads + Sync, D: Disk, K: Sink>(
+fn search_archive<R: Threads + Sync, D: SharedDisk, K: Sink>(
     rt: &R,
     alloc: Global,
     wanted: Wanted<'_>,
@@ -146,27 +146,27 @@ fn search_archive<R: Threads + Sync, D: Disk, K: Sink>(
     requires searched { IsSearched wanted.pattern.now }
 
     // what stays
-    ensures keeps { KeepsBytes (D.state disk.old) (D.state disk.new) }
+    ensures keeps { KeepsBytes (D.Disk.state disk.old) (D.Disk.state disk.new) }
     ensures reads { SparesBarren (asked wanted.entry.pattern.now wanted.entry.range.now)
-        (D.state disk.old).seen (D.state disk.old).ranges (D.state disk.new).ranges }
+        (D.Disk.state disk.old).seen (D.Disk.state disk.old).ranges (D.Disk.state disk.new).ranges }
 
     // by the answer
     ensures prints { PrintsFound (is_ok result)
         (asked wanted.entry.pattern.now wanted.entry.range.now) wanted.entry.stats
-        (D.state disk.old).seen (K.written out.old) (K.written out.new) }
+        (D.Disk.state disk.old).seen (K.written out.old) (K.written out.new) }
 
     // causes
     ensures damaged { (at : ℕ) → IsErrOf result (ReadRefusal.Damaged at)
-        → RefusedAt at (D.state disk.old).seen }
+        → RefusedAt at (D.Disk.state disk.old).seen }
     ensures disk { CountsOf ReadRefusal.DiskFault
-        (D.state disk.old).faults (D.state disk.new).faults result }
+        (D.Disk.state disk.old).faults (D.Disk.state disk.new).faults result }
     ensures sink { CountsOf ReadRefusal.SinkFault (K.faults out.old) (K.faults out.new) result }
 {
     search_with::<R, D, K, Brand, Brand>(rt, alloc, wanted, disk, out, Blank::new(1), Blank::new(1))
 }
 
 /// Prints the messages of the archive that the pattern of a text matches in a range.
-pub fn search_messages<R: Threads + Sync, D: Disk, K: Sink>(
+pub fn search_messages<R: Threads + Sync, D: SharedDisk, K: Sink>(
     rt: &R,
     alloc: Global,
     asked: &SearchWords<'_>,
@@ -176,9 +176,9 @@ pub fn search_messages<R: Threads + Sync, D: Disk, K: Sink>(
 ) -> u8
     ensures answers { AroundSinks K.written K.faults out.old out.new err.old err.new (λ seen.
         AnswersPattern asked.now.from asked.now.to asked.now.stats asked.now.pattern.now seen
-        (D.state disk.old) (D.state disk.new) result) }
-    ensures keeps { KeepsBytes (D.state disk.old) (D.state disk.new) }
-    ensures goes_on { DiskGoesOn (D.state disk.old) (D.state disk.new) }
+        (D.Disk.state disk.old) (D.Disk.state disk.new) result) }
+    ensures keeps { KeepsBytes (D.Disk.state disk.old) (D.Disk.state disk.new) }
+    ensures goes_on { DiskGoesOn (D.Disk.state disk.old) (D.Disk.state disk.new) }
     ensures out { K.faults out.old ≤ K.faults out.new }
     ensures err { K.faults err.old ≤ K.faults err.new }
 {
