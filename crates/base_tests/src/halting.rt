@@ -118,7 +118,7 @@ impl OffsetFile for Halting<'_> {
     }
 
     fn again(&self) -> io::Result<Self> {
-        let mut again = Halting::new(self.bytes.try_clone()?, self.fails, self.trace);
+        let mut again = Halting::new(self.bytes.clone()?, self.fails, self.trace);
         again.number = self.number;
         again.lock_taken = self.lock_taken;
         Ok(again)

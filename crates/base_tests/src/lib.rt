@@ -4,6 +4,8 @@
 #[cfg(test)]
 mod disk_calls;
 #[cfg(test)]
+mod disk_parts;
+#[cfg(test)]
 mod generated_logs_tests;
 #[cfg(test)]
 mod halting;
@@ -15,6 +17,8 @@ mod log_seams_tests;
 mod log_sources_tests;
 #[cfg(test)]
 mod mem_disk_tests;
+#[cfg(test)]
+mod mem_part_tests;
 #[cfg(test)]
 mod plain_list_tests;
 #[cfg(test)]

@@ -1,7 +1,8 @@
 //! Disks over real files, in the system's folder for files that do not stay.
 use crate::disk_calls::{DiskCall, all_answer};
+use crate::disk_parts::{PartCalls, parts_answer};
 use host_files::{DiskFile, FilePath, LogFiles};
-use log_seams::{Failed, Shelf};
+use log_seams::{Disk, Failed, SharedDisk, Shelf};
 use std::fs::File;
 use std::path::PathBuf;
 use std::test::Fail;
@@ -258,4 +259,143 @@ fn own_is_no_log(rt: &HostRuntime) -> io::Result<bool> {
 #[test]
 fn what_is_written_is_no_log(rt: HostRuntime) -> Result<(), Fail> {
     holds(own_is_no_log(&rt))
+}
+
+/// Whether two parts of a new disk that may write the file at a path, and the disk, answer so.
+fn written_lends(rt: &HostRuntime, path: &str, calls: &PartCalls) -> bool {
+    parts_answer(&mut written_at(rt, path), calls)
+}
+
+/// Whether two parts of a new disk that only reads the file at a path, and the disk, answer so.
+fn read_lends(rt: &HostRuntime, path: &str, calls: &PartCalls) -> bool {
+    parts_answer(&mut read_at(rt, path), calls)
+}
+
+/// Whether it is so by both disks.
+fn both_lend(rt: &HostRuntime, path: &str, calls: &PartCalls) -> bool {
+    written_lends(rt, path, calls) && read_lends(rt, path, calls)
+}
+
+/// Whether it is so of a file of nine bytes, which is removed then.
+fn nine_lends(rt: &HostRuntime, path: &str, calls: &PartCalls) -> io::Result<bool> {
+    fs::write(rt, path, b"abcdghijk")?;
+    let well = both_lend(rt, path, calls);
+    fs::remove_file(rt, path)?;
+    Ok(well)
+}
+
+fn own_nine_lends(rt: &HostRuntime, name: &str, calls: &PartCalls) -> io::Result<bool> {
+    nine_lends(rt, own_path(rt, name)?.as_str(), calls)
+}
+
+/// The parts read the nine bytes beside each other and beside the disk.
+const READS_NINE: &PartCalls = &PartCalls {
+    first: &[
+        DiskCall::Len(Ok(9)),
+        DiskCall::Read(0, Ok(8), b"abcdghij"),
+        DiskCall::Read(9, Ok(0), &[0; 8]),
+        DiskCall::Read(u64::MAX, Ok(0), &[0; 8]),
+        DiskCall::Faults(0),
+    ],
+    meanwhile: &[DiskCall::Read(4, Ok(5), b"ghijk\0\0\0")],
+    last: &[
+        DiskCall::Read(5, Ok(4), b"hijk\0\0\0\0"),
+        DiskCall::Len(Ok(9)),
+        DiskCall::Faults(0),
+    ],
+    last_comes_first: false,
+    one_back: &[DiskCall::Read(8, Ok(1), b"k\0\0\0\0\0\0\0")],
+    both_back: &[DiskCall::Read(0, Ok(8), b"abcdghij"), DiskCall::Faults(0)],
+};
+
+#[test]
+fn parts_read_what_the_file_holds(rt: HostRuntime) -> Result<(), Fail> {
+    holds(own_nine_lends(&rt, "parts-read", READS_NINE))
+}
+
+/// Each write and each sync of a part fails, and is a fault of the disk once the part came back.
+const WRITES_NONE: &PartCalls = &PartCalls {
+    first: &[DiskCall::Write(9, b"l", Err(Failed)), DiskCall::Faults(1)],
+    meanwhile: &[DiskCall::Faults(0)],
+    last: &[
+        DiskCall::Write(0, b"l", Err(Failed)),
+        DiskCall::Sync(Err(Failed)),
+        DiskCall::Faults(2),
+    ],
+    last_comes_first: true,
+    one_back: &[DiskCall::Faults(2)],
+    both_back: &[
+        DiskCall::Faults(3),
+        DiskCall::Len(Ok(9)),
+        DiskCall::Read(0, Ok(8), b"abcdghij"),
+    ],
+};
+
+#[test]
+fn parts_do_not_write_the_file(rt: HostRuntime) -> Result<(), Fail> {
+    holds(own_nine_lends(&rt, "parts-write", WRITES_NONE))
+}
+
+/// The parts are empty, and are written no more than those of a file.
+const LENDS_EMPTY: &PartCalls = &PartCalls {
+    first: &[
+        DiskCall::Len(Ok(0)),
+        DiskCall::Read(0, Ok(0), &[0; 8]),
+        DiskCall::Faults(0),
+    ],
+    meanwhile: &[DiskCall::Len(Ok(0))],
+    last: &[DiskCall::Write(0, b"a", Err(Failed))],
+    last_comes_first: false,
+    one_back: &[DiskCall::Faults(0)],
+    both_back: &[DiskCall::Faults(1)],
+};
+
+/// Whether parts of no file are empty, and make none.
+fn own_is_absent(rt: &HostRuntime) -> io::Result<bool> {
+    let path = own_path(rt, "parts-absent")?;
+    let well = both_lend(rt, path.as_str(), LENDS_EMPTY);
+    Ok(well && !fs::exists(rt, path.as_str())?)
+}
+
+#[test]
+fn parts_of_no_file_read_nothing(rt: HostRuntime) -> Result<(), Fail> {
+    holds(own_is_absent(&rt))
+}
+
+/// Whether a new disk that only reads what is at a path lends no part, which is no fault.
+fn lends_none(rt: &HostRuntime, path: &str) -> bool {
+    let mut disk = read_at(rt, path);
+    disk.part().is_none() && disk.faults() == 0
+}
+
+#[test]
+fn a_disk_that_is_not_opened_lends_no_part(rt: HostRuntime) {
+    assert!(rt; lends_none(&rt, "/dev"));
+}
+
+/// Whether the file at a path, which has two bytes, stays locked when a part of its disk came back.
+fn stays_locked(rt: &HostRuntime, path: &str) -> bool {
+    let mut disk = written_at(rt, path);
+    let Some(part) = disk.part() else {
+        return false;
+    };
+    disk.take_back(part);
+    is_only_read(rt, path)
+}
+
+/// Whether the file at a path, which is made and removed, is so, and is free when the disk is let go.
+fn is_freed(rt: &HostRuntime, path: &str) -> io::Result<bool> {
+    fs::write(rt, path, b"ab")?;
+    let well = stays_locked(rt, path) && written_answers(rt, path, FREE);
+    fs::remove_file(rt, path)?;
+    Ok(well)
+}
+
+fn own_is_freed(rt: &HostRuntime) -> io::Result<bool> {
+    is_freed(rt, own_path(rt, "parts-locked")?.as_str())
+}
+
+#[test]
+fn a_part_that_came_back_leaves_the_lock(rt: HostRuntime) -> Result<(), Fail> {
+    holds(own_is_freed(&rt))
 }
