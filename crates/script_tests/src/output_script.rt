@@ -155,15 +155,13 @@ end
 is 0 $numbered
 least 3 k
 
-# ---- a page of few rows is searched before the next one is read, by any number of workers: told by
-# the calls of the disk
+# ---- one worker searches a page of few rows before it reads the next one: told by the calls of the
+# disk. Of several, each reads a part of the disk, whose calls are none of the disk's
 play search --workers=1
 count n
 least 1 n
 play search --workers=2
-calls n
 play search --workers=9
-calls n
 
 # ---- a decode whose first write fails reads the first of nine segments alone: told by the calls of the
 # disk, five for each segment
