@@ -3,7 +3,7 @@ ghost use Rattle.step_count.specs.Opens.{OpensFor};
 
 use archive_places::open_places;
 use column_store::Range;
-use log_seams::{MemDisk, MemSink};
+use log_seams::{Disk, MemDisk, MemSink};
 use plain_list::Text;
 use query_plan::wide_is_wider;
 use search_engine::{Report, SearchRefusal, exact_expands_printed, one_is_found, search};
@@ -16,12 +16,13 @@ use step_count::Steps;
 use test_archives::{LETTERS, NUMBERS, ROWS, STAMPS, WORKED, changed};
 use wild_match::read_pattern;
 
-/// What a search printed and answered, and how many calls of the disk it made.
+/// What a search printed and answered, how many calls of the disk it made, and how many failed.
 #[derive(Drop)]
 struct Outcome {
     printed: MemSink,
     answer: Result<Report, SearchRefusal>,
     calls: u64,
+    faults: u64,
 }
 
 /// A disk with these bytes, which is read alone.
@@ -30,7 +31,8 @@ fn disk_of(alloc: Global, bytes: &[u8]) -> Result<MemDisk, AllocError> {
     MemDisk::new(alloc, bytes, 0, 1_000, Vec::new(alloc))
 }
 
-/// Searches an archive into an output with so much room, for a caller that counts nothing.
+/// Searches an archive into an output with so much room, for a caller that counts nothing. Each part of
+/// the disk fails at its call of this number.
 fn search_with<R: Threads + Sync, L: Ledger, M: Ledger>(
     rt: &R,
     workers: u32,
@@ -39,6 +41,7 @@ fn search_with<R: Threads + Sync, L: Ledger, M: Ledger>(
     text: &[u8],
     range: Range,
     room: usize,
+    fails: u64,
     one: Blank,
     two: Blank,
 ) -> Result<Outcome, AllocError>
@@ -51,6 +54,7 @@ fn search_with<R: Threads + Sync, L: Ledger, M: Ledger>(
     };
     let mut out = MemSink::new(alloc, room, Vec::new(alloc))?;
     let mut disk = disk_of(alloc, bytes)?;
+    disk.fail_parts(vec![in alloc; fails; 1]?);
     let opening = open_places(alloc, &mut disk);
     let Ok(places) = opening else {
         return Err(AllocError);
@@ -74,10 +78,11 @@ fn search_with<R: Threads + Sync, L: Ledger, M: Ledger>(
         printed: out,
         answer,
         calls: (disk.calls() as u64).wrapping_sub(before),
+        faults: disk.faults(),
     })
 }
 
-fn searched<R: Threads + Sync>(
+fn searched_failing<R: Threads + Sync>(
     rt: &R,
     workers: u32,
     alloc: Global,
@@ -85,6 +90,7 @@ fn searched<R: Threads + Sync>(
     text: &[u8],
     range: Range,
     room: usize,
+    fails: u64,
 ) -> Result<Outcome, AllocError> {
     search_with::<R, Brand, Brand>(
         rt,
@@ -94,9 +100,23 @@ fn searched<R: Threads + Sync>(
         text,
         range,
         room,
+        fails,
         Blank::new(1),
         Blank::new(1),
     )
+}
+
+/// Searches over a disk whose parts do not fail.
+fn searched<R: Threads + Sync>(
+    rt: &R,
+    workers: u32,
+    alloc: Global,
+    bytes: &[u8],
+    text: &[u8],
+    range: Range,
+    room: usize,
+) -> Result<Outcome, AllocError> {
+    searched_failing(rt, workers, alloc, bytes, text, range, room, u64::MAX)
 }
 
 const ALL: Range = Range {
@@ -291,6 +311,46 @@ fn any_number_of_workers_prints_the_same(rt: HostRuntime) -> Result<(), Fail> {
             (3, 3, 3, 4),
         )?;
         assert!(rt; well, "{workers}");
+    }
+    Ok(())
+}
+
+/// Whether a search by so many workers is right whose parts of the disk fail at their call of this
+/// number: it tells the fault and prints a front, or no part makes so many calls and it prints all.
+fn is_right_with_fault<R: Threads + Sync>(
+    rt: &R,
+    workers: u32,
+    alloc: Global,
+    call: u64,
+) -> Result<bool, AllocError> {
+    let outcome = searched_failing(rt, workers, alloc, &ROWS, b"run task_", ALL, 1_000, call)?;
+    let printed = outcome.printed.bytes();
+    if outcome.answer == Err(SearchRefusal::DiskFault) {
+        return Ok(outcome.faults > 0 && ALL_ROWS.starts_with(printed));
+    }
+    Ok(outcome.answer.is_ok() && outcome.faults == 0 && printed == ALL_ROWS && call > 0)
+}
+
+/// At how many of its first calls each part may fail, for a search by so many workers to be right.
+fn right_with_faults<R: Threads + Sync>(
+    rt: &R,
+    workers: u32,
+    alloc: Global,
+) -> Result<u64, AllocError> {
+    let mut right: u64 = 0;
+    for call in 0..20 {
+        if is_right_with_fault(rt, workers, alloc, call)? {
+            right = right.saturating_add(1);
+        }
+    }
+    Ok(right)
+}
+
+#[test]
+fn a_part_of_the_disk_that_fails_is_told(rt: HostRuntime) -> Result<(), Fail> {
+    for &workers in &[2u32, 3, 5] {
+        let right = right_with_faults(&rt, workers, rt.alloc())?;
+        assert!(rt; right == 20, "{workers} {right}");
     }
     Ok(())
 }
