@@ -196,7 +196,7 @@ fn move_named<'s, 'd, M: Names, E: Disk, D: Disk, R: Wait>(
     }
 }
 
-/// The same with their names, of files whose names are short.
+/// Names the files, whose names are short, and moves their segments.
 fn name_and_move<'s, 'd, M: Names, E: Disk, D: Disk, R: Wait>(
     rt: &R,
     alloc: Global,

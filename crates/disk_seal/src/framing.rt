@@ -35,7 +35,7 @@ pub(crate) fn types_piece(
     }))
 }
 
-/// The same of words.
+/// The record of new words, and none where there is no new word.
 pub(crate) fn words_piece(
     alloc: Global,
     first: u32,

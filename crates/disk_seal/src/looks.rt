@@ -60,7 +60,7 @@ pub trait Looks<D: Disk> {
             → TellsNothing D.state place at (pass self.new) };
 }
 
-/// The same by a pass, with a counter of its turns that nobody reads.
+/// Looks for the record at a place by a pass, with a counter of its turns that nobody reads.
 fn look_with<'d, 'b, D: Disk, R: Wait, L: Ledger>(
     pass: &mut Pass<'_, Store<'d, 'b, D>>,
     rt: &R,

@@ -44,7 +44,7 @@ impl Lent for Brand {
     ghost tells = { false };
 }
 
-/// The same disk, whose bytes are told only where they are to be.
+/// A disk whose bytes are told only where they are to be.
 #[derive(Drop)]
 pub struct Founded<'d, D: Disk, L: Lent> {
     /// The disk.

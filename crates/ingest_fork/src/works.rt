@@ -131,8 +131,8 @@ pub fn by_workers<J: Send, K: Send, W: Works<J, K> + Send, R: Threads + Wait + S
     );
 }
 
-/// The same over vectors of workers and keepers. A caller whose keepers' type names a lifetime
-/// learns by it what became of them.
+/// Has the workers do the jobs, as `by_workers` does, where workers and keepers are vectors. A caller
+/// whose keepers' type names a lifetime learns by it what became of them.
 pub fn by_workers_of<J: Send, K: Send, W: Works<J, K> + Send, R: Threads + Wait + Sync>(
     rt: &R,
     workers: &mut Vec<W>,

@@ -40,7 +40,7 @@ impl<S> Job<S> {
         }
     }
 
-    /// The same of a source that is not the whole file: its rest is sealed as a segment that is not
+    /// A job of a source that is not the whole file: its rest is sealed as a segment that is not
     /// marked last. Its outcome is not whole, and has no cause where all its messages were sealed.
     pub fn part_of(file: u32, source: S) -> Job<S>
         ensures file { result.file ≡ file }
@@ -62,7 +62,7 @@ impl<S> Job<S> {
         }
     }
 
-    /// The same of a source that was not opened: it is not read, and the file gets no message.
+    /// A job of a source that was not opened: it is not read, and the file gets no message.
     pub fn unopened(file: u32, source: S) -> Job<S>
         ensures file { result.file ≡ file }
         ensures source { result.source ≡ Some source }
@@ -83,7 +83,7 @@ impl<S> Job<S> {
         }
     }
 
-    /// The same, whole or a part.
+    /// A job of a source that was opened and is the whole file or a part of it.
     pub(crate) fn with_source(file: u32, is_part: bool, source: S) -> Job<S>
         ensures file { result.file ≡ file }
         ensures source { result.source ≡ Some source }

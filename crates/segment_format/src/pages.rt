@@ -193,7 +193,8 @@ impl PageReader {
         self.fill_page(Columns::new(alloc), bytes)
     }
 
-    /// The same, in the memory of columns that are no longer needed. A refusal lets go of them.
+    /// Reads the next page into the memory of columns that are no longer needed. A refusal lets go of
+    /// them, and leaves the reader as it was.
     pub fn fill_page(&mut self, columns: Columns, bytes: &[u8]) -> Result<Columns, FormatRefusal>
         requires { self.old.row < self.old.rows }
         ensures page { IfOk result (λ c. IsPage self.old bytes.now c.rows) }
