@@ -12,9 +12,10 @@ use Rattle.archive_open.specs.declared.segments.SegmentPlace.{SegmentPlace}
 use Rattle.archive_open.specs.Shown.{Opens, Shown, StandsForNone}
 use Rattle.archive_decode.specs.declared.lines.Lines.{Lines}
 use Rattle.archive_decode.specs.Decoded.{Decodes}
-use Rattle.archive_decode.specs.StepsHeld.{HoldAll, HoldsMessages, is_of}
+use Rattle.archive_open.specs.OfFile.{is_of}
+use Rattle.archive_text.specs.Meant.{HoldAll, HoldsMessages}
 use Rattle.archive_decode.specs.StepsLines.{Adds, AddsFront, HasLines}
-use Rattle.archive_decode.proofs.HeldLemmas.{entry_of, file_held, file_messages}
+use Rattle.archive_text.proofs.HeldLemmas.{entry_of, file_held, file_messages}
 use Rattle.archive_decode.proofs.LinesLemmas.{adds-failed, adds-longer, adds-none, adds-then, lines-front, lines-none}
 
 module _ (types words : List (List ℕ)) (number : ℕ) where

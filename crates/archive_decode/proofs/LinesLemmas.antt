@@ -5,7 +5,8 @@ use Rattle.sink_pieces.specs.Output.{Gathers, Grew, GrewByFront, Moves}
 use Rattle.sink_pieces.proofs.OutputLemmas.{Gathers-all, Gathers-front, Gathers-kept, Gathers-more, Gathers-moves, Gathers-nothing}
 use Rattle.archive_meaning.specs.Held.{text_from}
 use Rattle.archive_decode.specs.declared.lines.Lines.{Lines}
-use Rattle.archive_decode.specs.StepsLines.{Adds, AddsFront, HasLines, behind, ending, has_some, separator}
+use Rattle.archive_text.specs.Newlines.{behind, ending, separator}
+use Rattle.archive_decode.specs.StepsLines.{Adds, AddsFront, HasLines, has_some}
 
 -- of an answer that is an error
 pub on_err : {T E : Type 0} (r : Result T E) {P : Type 0} → P → OnErr r P

@@ -7,8 +7,9 @@ use Rattle.row_codec.specs.Means.{HasSpelling, IsSpelling, Means}
 use Rattle.row_codec.proofs.MeansLemmas.{meaning_is_spelling, one_spelling}
 use Rattle.sink_pieces.specs.Output.{GrewByFront, Moves}
 use Rattle.archive_decode.specs.declared.lines.Lines.{Lines}
-use Rattle.archive_decode.specs.StepsHeld.{AreMeant}
-use Rattle.archive_decode.specs.StepsLines.{Adds, AddsFront, behind}
+use Rattle.archive_text.specs.Meant.{AreMeant}
+use Rattle.archive_text.specs.Newlines.{behind}
+use Rattle.archive_decode.specs.StepsLines.{Adds, AddsFront}
 use Rattle.archive_decode.proofs.LinesLemmas.{adds-failed, adds-longer, adds-none, adds-then, lines-failed, lines-more}
 
 -- the rows up to and with a place

@@ -1,7 +1,6 @@
 -- The messages of a segment, a page more at a time.
-use Rattle.std.proofs.Common.{◌≡◌, refl, sym, ap, subst, ◌∙◌, ℕ, ◌≤◌, List, [], ◌∷◌, ◌++◌, Option, Some, append_assoc, Result, Err, inl, arith}
+use Rattle.std.proofs.Common.{◌≡◌, refl, sym, ap, subst, ◌∙◌, ℕ, ◌≤◌, List, [], ◌∷◌, ◌++◌, Option, Some, append_assoc, Result, Err}
 use Rattle.std.proofs.lemmas.List.{append-nil}
-use Rattle.log_seams.specs.Disk.{DiskState, Rests}
 use Rattle.column_store.specs.declared.row.Row.{Row}
 use Rattle.segment_pages.specs.Laws.{NoneAreLeft}
 use Rattle.segment_pages.specs.declared.refusal.PageRefusal.{PageRefusal}
@@ -10,7 +9,7 @@ use Rattle.archive_open.specs.declared.segments.SegmentPlace.{SegmentPlace}
 use Rattle.archive_decode.specs.declared.lines.Lines.{Lines}
 use Rattle.archive_decode.specs.declared.refusal.DecodeRefusal.{DecodeRefusal}
 use Rattle.archive_decode.specs.Refused.{from_page}
-use Rattle.archive_decode.specs.StepsHeld.{AreMeant, HoldsMessages}
+use Rattle.archive_text.specs.Meant.{AreMeant, HoldsMessages}
 use Rattle.archive_decode.specs.StepsLines.{Adds, AddsFront}
 use Rattle.archive_decode.proofs.LinesLemmas.{adds-failed, adds-kept, adds-longer, adds-none, adds-then}
 
@@ -110,10 +109,6 @@ module _ (types words : List (List ℕ)) where
       all meant = going.are ∙ (ap (λ l. going.done ++ l) (nothing going.left meant) ∙ append-nil going.done)
 
 -- ---- where reading failed
-
--- a disk that was not called
-pub rests_none : (d : DiskState) → Rests d d
-rests_none d = record { seen = refl; no_more = λ c left. left; no_fewer = λ c left. left; time = record { later = omega arith; nothing_else = λ t c le left. inl left; keeps = λ t c le left. left } }
 
 pub page_damaged : {T : Type 0} (refusal : PageRefusal) (r : DecodeRefusal) (x : Result T DecodeRefusal) → r ≡ from_page refusal → x ≡ Err r → x ≡ Err DecodeRefusal.Damaged → refusal ≡ PageRefusal.Damaged
 page_damaged PageRefusal.DiskFault r x e is was = absurd cc

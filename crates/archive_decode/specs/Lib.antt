@@ -1,4 +1,3 @@
 pub mod Decoded
 pub mod Refused
 pub mod StepsLines
-pub mod StepsHeld

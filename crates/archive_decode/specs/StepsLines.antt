@@ -9,21 +9,6 @@ abbrev pub has_some : List (List ℕ) → Bool
 has_some [] = false
 has_some (m ∷ messages) = true
 
--- the newline between a message and those before
-abbrev pub separator : Bool → List ℕ
-separator true = 10 ∷ []
-separator false = []
-
--- a message behind others, or as the first
-abbrev pub behind : Bool → List ℕ → List ℕ
-behind begun message = separator begun ++ message
-
--- the newline behind the last message
-abbrev pub ending : Bool → Bool → List ℕ
-ending true begun = []
-ending false true = 10 ∷ []
-ending false false = []
-
 -- what the sink took since it had `start`, and what is gathered, are these messages with newlines between them
 pub record HasLines (start now : Option (List ℕ)) (lines : Lines) (messages : List (List ℕ)) : Type 0 where
   pub gathers : Gathers start now lines.gathered.items (text_from true messages)

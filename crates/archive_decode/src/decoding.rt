@@ -7,7 +7,8 @@ ghost use Rattle.step_count.specs.Opens.{OpensFor};
 ghost use Rattle.archive_open.specs.Archive.{shown};
 ghost use Rattle.archive_open.specs.Shown.{Opens, StandsForNone};
 ghost use Rattle.archive_decode.specs.Decoded.{Decodes};
-ghost use Rattle.archive_decode.specs.StepsHeld.{HoldAll, is_of};
+ghost use Rattle.archive_open.specs.OfFile.{is_of};
+ghost use Rattle.archive_text.specs.Meant.{HoldAll};
 ghost use Rattle.archive_decode.specs.StepsLines.{Adds, AddsFront};
 
 use crate::lines::Lines;

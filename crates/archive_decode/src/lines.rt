@@ -5,7 +5,8 @@ ghost use Rattle.column_store.specs.Row.{row_of};
 ghost use Rattle.row_codec.specs.Means.{HasSpelling, IsSpelling};
 ghost use Rattle.sink_pieces.specs.Output.{Grew, GrewByFront, Moves};
 ghost use Rattle.archive_meaning.specs.Held.{text_from};
-ghost use Rattle.archive_decode.specs.StepsLines.{HasLines, behind, ending, separator};
+ghost use Rattle.archive_text.specs.Newlines.{behind, ending, separator};
+ghost use Rattle.archive_decode.specs.StepsLines.{HasLines};
 
 use column_store::RowRef;
 use log_seams::Sink;

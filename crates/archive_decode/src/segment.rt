@@ -2,7 +2,7 @@
 ghost use Rattle.std.specs.Prelude.{◌≡◌, ℕ, List, Some, IsErrOf, OnErr, OnOk};
 ghost use Rattle.log_seams.specs.Disk.{Rests};
 ghost use Rattle.log_seams.specs.Outside.{CountsOf};
-ghost use Rattle.archive_decode.specs.StepsHeld.{AreMeant, HoldsMessages};
+ghost use Rattle.archive_text.specs.Meant.{AreMeant, HoldsMessages};
 ghost use Rattle.archive_decode.specs.StepsLines.{Adds, AddsFront};
 
 use crate::lines::Lines;

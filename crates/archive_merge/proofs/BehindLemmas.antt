@@ -24,7 +24,7 @@ use Rattle.archive_meaning.specs.declared.entry.JournalEntry.TheVariants.{Files,
 use Rattle.archive_meaning.specs.declared.entry.SegmentEntry.{SegmentEntry}
 use Rattle.ingest_meaning.specs.Parts.{in_file}
 use Rattle.archive_open.specs.declared.segments.SegmentPlace.{SegmentPlace}
-use Rattle.archive_decode.specs.StepsHeld.{is_of}
+use Rattle.archive_open.specs.OfFile.{is_of}
 use Rattle.disk_seal.specs.declared.entry.StoreEntry.{StoreEntry}
 use Rattle.disk_seal.specs.declared.entry.StoreEntry.TheVariants.{Blank, Entry, Stopped as Mark}
 use Rattle.disk_seal.specs.declared.fixed.StoreFixed.{StoreFixed}

@@ -7,7 +7,7 @@ use Rattle.log_seams.specs.declared.disk.Disk.{Ghosts as DiskGhosts}
 use Rattle.logtype_text.specs.Fair.{IsFairType, IsFairWord}
 use Rattle.row_codec.specs.declared.names.Names.{Ghosts as NamesGhosts}
 use Rattle.archive_open.specs.declared.segments.SegmentPlace.{SegmentPlace}
-use Rattle.archive_decode.specs.StepsHeld.{is_of}
+use Rattle.archive_open.specs.OfFile.{is_of}
 use Rattle.std.specs.List.{Contains, filter}
 use Rattle.std.specs.List.Sorted.{IsNonDecreasingBy}
 use Rattle.disk_seal.specs.Fixed.{KeeperPass}

@@ -6,7 +6,7 @@ use Rattle.std.proofs.lemmas.List.{take-append-drop}
 use Rattle.std.proofs.lemmas.List.Elements.{Contains-append_left, Contains-append_right}
 use Rattle.std.proofs.lemmas.Bool.{eq-eqb, leb-false, leb-true, ltb-false, ltb-true, ne_eqb}
 use Rattle.archive_open.specs.declared.segments.SegmentPlace.{SegmentPlace}
-use Rattle.archive_decode.specs.StepsHeld.{is_of}
+use Rattle.archive_open.specs.OfFile.{is_of}
 use Rattle.archive_merge.specs.Merger.{file_at}
 
 below : (a b : ℕ) → ltb a b ≡ true → (a == b) ≡ false

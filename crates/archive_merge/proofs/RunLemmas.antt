@@ -26,8 +26,8 @@ use Rattle.archive_core.specs.Part.{segment_of}
 use Rattle.archive_open.proofs.NextLemmas.{front_length}
 use Rattle.archive_open.specs.declared.segments.SegmentPlace.{SegmentPlace}
 use Rattle.archive_open.specs.Shown.{IsArchiveOf, Shown, head_in, order_of, places_from, places_of}
-use Rattle.archive_decode.specs.StepsHeld.{is_of}
-use Rattle.archive_decode.proofs.OrderLemmas.{AreAbove, AreAtLeast, Rise, above_from, least_lower, sorted_filter}
+use Rattle.archive_open.specs.OfFile.{is_of}
+use Rattle.archive_open.proofs.SortedLemmas.{AreAbove, AreAtLeast, Rise, above_from, least_lower, sorted_filter}
 use Rattle.ingest_meaning.specs.Parts.{in_file}
 use Rattle.archive_merge.specs.InHand.{Texts}
 use Rattle.archive_merge.specs.Laws.{IsSegmentAt}

@@ -22,7 +22,7 @@ use Rattle.ingest_meaning.specs.Dictionaries.{IsFullBy, book_texts, header_limit
 use Rattle.ingest_meaning.specs.Parts.{in_file}
 use Rattle.ingest_meaning.specs.WordsIn.{words_of}
 use Rattle.archive_open.specs.declared.segments.SegmentPlace.{SegmentPlace}
-use Rattle.archive_decode.specs.StepsHeld.{is_of}
+use Rattle.archive_open.specs.OfFile.{is_of}
 use Rattle.disk_seal.specs.Opening.{MayOpen}
 use Rattle.disk_seal.specs.Told.{IfTold}
 use Rattle.disk_seal.specs.View.{StoreView, journal_of, state_by}

@@ -10,7 +10,7 @@ use Rattle.archive_meaning.specs.Stands.{StandsFor}
 use Rattle.archive_open.specs.Kept.{Kept}
 use Rattle.archive_open.specs.Shown.{IsArchiveOf, Shown}
 use Rattle.archive_open.specs.declared.segments.SegmentPlace.{SegmentPlace}
-use Rattle.archive_decode.specs.StepsHeld.{is_of}
+use Rattle.archive_open.specs.OfFile.{is_of}
 use Rattle.ingest_meaning.specs.Parts.{in_file}
 use Rattle.segment_pages.specs.Paged.{HoldsSegment}
 use Rattle.archive_merge.specs.Behind.{HasRun, SecondView}

@@ -15,7 +15,7 @@ use Rattle.turn_lock.specs.Words.{IsReady, about, lock_of, number_of}
 use Rattle.dict_core.specs.declared.grows.TheConstants.{WORDS_FIRST}
 use Rattle.dict_lock.specs.Cached.{pass_in}
 use Rattle.archive_open.specs.declared.segments.SegmentPlace.{SegmentPlace}
-use Rattle.archive_decode.specs.StepsHeld.{is_of}
+use Rattle.archive_open.specs.OfFile.{is_of}
 use Rattle.disk_seal.specs.declared.fixed.StoreFixed.{StoreFixed}
 use Rattle.disk_seal.specs.Fixed.{KeeperPass}
 use Rattle.disk_seal.specs.Known.{known_of}

@@ -7,7 +7,7 @@ use Rattle.log_seams.specs.declared.disk.Disk.{Ghosts as DiskGhosts}
 use Rattle.row_codec.specs.declared.namer.Which.{Which}
 use Rattle.row_codec.specs.declared.namer.Which.TheVariants.{Types, Words}
 use Rattle.row_codec.specs.declared.names.Names.{Ghosts as NamesGhosts}
-use Rattle.archive_decode.proofs.SegmentLemmas.{rests_none}
+use Rattle.log_seams.proofs.ReadsLemmas.{rests_same}
 use Rattle.archive_open.specs.declared.segments.SegmentPlace.{SegmentPlace}
 use Rattle.ingest_fork.specs.Works.{ArePieces}
 use Rattle.ingest_fork.proofs.PlaceLemmas.{at_right, in_left}
@@ -63,7 +63,7 @@ module _ {M E : Type 0} {G : NamesGhosts M} {H : DiskGhosts E} (types words : M 
       → MovesOn types words version state js js' w w
   rests js js' w idle = record {
     first_is = refl;
-    second_is = record { lent = refl; names = refl; segments = refl; rests = rests_none (state w.second.disk.now) };
+    second_is = record { lent = refl; names = refl; segments = refl; rests = rests_same (state w.second.disk.now) };
     later = omega arith;
     adds = passes_self (needed_in types words version state w js') (passes_of w) idle.may;
     stop_is = λ some. refl;

@@ -5,7 +5,7 @@ ghost use Rattle.std.specs.List.Sorted.{IsNonDecreasingBy};
 ghost use Rattle.log_seams.specs.Outside.{CountsOf};
 ghost use Rattle.logtype_text.specs.Fair.{IsFairType, IsFairWord};
 ghost use Rattle.step_count.specs.Opens.{OpensFor};
-ghost use Rattle.archive_decode.specs.StepsHeld.{is_of};
+ghost use Rattle.archive_open.specs.OfFile.{is_of};
 ghost use Rattle.archive_open.specs.declared.segments.SegmentPlace.{SegmentPlace};
 ghost use Rattle.archive_merge.specs.Causes.{HasMoveCause};
 ghost use Rattle.archive_merge.specs.Files.{CameOver, IsNewFile};

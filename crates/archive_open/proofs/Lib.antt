@@ -9,3 +9,5 @@ pub mod HeadLemmas
 pub mod TakenLemmas
 pub mod StepLemmas
 pub mod OpenLemmas
+pub mod SortedLemmas
+pub mod FileOrderLemmas

@@ -7,3 +7,4 @@ pub mod StepsNext
 pub mod StepsBuilt
 pub mod StepsFiles
 pub mod Grown
+pub mod OfFile

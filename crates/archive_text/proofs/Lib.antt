@@ -3,6 +3,7 @@ pub mod DecideRow
 pub mod DecideSegment
 pub mod DecideStamp
 pub mod DecideText
+pub mod HeldLemmas
 pub mod PlacesLemmas
 pub mod StartLemmas
 pub mod WayLemmas

@@ -16,7 +16,7 @@ use Rattle.archive_meaning.specs.StepsForms.{HaveForms}
 use Rattle.archive_meaning.proofs.UniqueLemmas.{legal_forms}
 use Rattle.archive_open.specs.Shown.{IsArchiveOf, Shown, order_of, places_from}
 use Rattle.archive_open.specs.declared.segments.SegmentPlace.{SegmentPlace}
-use Rattle.archive_decode.specs.StepsHeld.{is_of}
+use Rattle.archive_open.specs.OfFile.{is_of}
 
 module _ {X : Type 0} (p : X → Bool) where
   passes_none : (xs : List X) → All (λ x. p x ≡ false) xs → filter p xs ≡ []

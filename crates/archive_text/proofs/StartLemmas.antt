@@ -14,8 +14,9 @@ use Rattle.archive_meaning.specs.Stands.{StandsFor}
 use Rattle.archive_open.specs.declared.files.FileEntry.{FileEntry}
 use Rattle.archive_open.specs.declared.segments.SegmentPlace.{SegmentPlace}
 use Rattle.archive_open.specs.Shown.{IsArchiveOf, Opens, Shown, StandsForNone}
-use Rattle.archive_decode.specs.StepsHeld.{AreMeant, HoldAll, is_of}
-use Rattle.archive_decode.proofs.HeldLemmas.{entry_of, file_held, file_messages}
+use Rattle.archive_open.specs.OfFile.{is_of}
+use Rattle.archive_text.specs.Meant.{AreMeant, HoldAll}
+use Rattle.archive_text.proofs.HeldLemmas.{entry_of, file_held, file_messages}
 use Rattle.archive_text.specs.declared.walk.Walk.{Walk}
 use Rattle.archive_text.specs.Ahead.{PagesHold, ahead, text_behind}
 use Rattle.archive_text.specs.OneText.{one_text}

@@ -3,7 +3,7 @@ use Rattle.std.proofs.Common.{◌≡◌, refl, sym, ap, ap₂, subst, ◌∙◌,
 use Rattle.std.specs.Prelude.{option_map}
 use Rattle.std.proofs.lemmas.List.{drop-append-le, drop-drop, drop_all, take-append-le}
 use Rattle.log_seams.specs.Outside.{Takes}
-use Rattle.archive_decode.specs.StepsLines.{ending}
+use Rattle.archive_text.specs.Newlines.{ending}
 use Rattle.archive_text.specs.declared.lines.Lines.{Lines}
 use Rattle.archive_text.specs.declared.walk.Walk.{Walk}
 use Rattle.archive_text.specs.Ahead.{Goes, IsAhead, IsPast, ahead, text_behind}

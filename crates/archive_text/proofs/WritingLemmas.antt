@@ -10,7 +10,7 @@ use Rattle.segment_pages.specs.Paged.{AreNextTold, HoldsLeft, HoldsNoneTold, Hol
 use Rattle.segment_pages.proofs.PageLemmas.{none_left}
 use Rattle.archive_meaning.specs.Held.{text_from}
 use Rattle.archive_open.specs.declared.segments.SegmentPlace.{SegmentPlace}
-use Rattle.archive_decode.specs.StepsLines.{behind}
+use Rattle.archive_text.specs.Newlines.{behind}
 use Rattle.archive_text.specs.declared.cause.TextCause.{TextCause}
 use Rattle.archive_text.specs.declared.lines.Lines.{Lines}
 use Rattle.archive_text.specs.Caused.{from_page}

@@ -4,7 +4,7 @@ use Rattle.std.specs.List.{sum_by}
 use Rattle.column_store.specs.declared.row.Row.{Row}
 use Rattle.segment_pages.specs.Paged.{HoldsLeft, Paged}
 use Rattle.archive_open.specs.declared.segments.SegmentPlace.{SegmentPlace}
-use Rattle.archive_decode.specs.StepsLines.{behind, ending}
+use Rattle.archive_text.specs.Newlines.{behind, ending}
 use Rattle.archive_text.specs.declared.lines.Lines.{Lines}
 use Rattle.archive_text.specs.declared.walk.Walk.{Walk}
 use Rattle.archive_text.specs.Told.{AreWritten, HoldAllWritten}

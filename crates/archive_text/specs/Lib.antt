@@ -2,6 +2,8 @@ pub mod Ahead
 pub mod Caused
 pub mod Kept
 pub mod Laws
+pub mod Meant
+pub mod Newlines
 pub mod OneText
 pub mod State
 pub mod Told

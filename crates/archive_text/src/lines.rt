@@ -2,7 +2,7 @@
 ghost use Rattle.std.specs.Prelude.{◌≡◌, ◌++◌, ◌≤◌, ◌+◌, ◌-◌, ℕ, List, [], drop, false, length, min, take, true, IfOk, IsFalse, IsTrue, OnErr, OnOk};
 ghost use Rattle.column_store.specs.Row.{row_of};
 ghost use Rattle.row_codec.specs.Means.{HasSpelling, IsSpelling};
-ghost use Rattle.archive_decode.specs.StepsLines.{behind, ending, separator};
+ghost use Rattle.archive_text.specs.Newlines.{behind, ending, separator};
 
 use column_store::RowRef;
 use row_codec::{Names, RowWriter};

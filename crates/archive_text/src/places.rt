@@ -2,7 +2,7 @@
 ghost use Rattle.std.specs.Prelude.{◌≡◌, ◌&&◌, not};
 ghost use Rattle.std.specs.List.{filter};
 ghost use Rattle.std.specs.List.Sorted.{IsNonDecreasingBy};
-ghost use Rattle.archive_decode.specs.StepsHeld.{is_of};
+ghost use Rattle.archive_open.specs.OfFile.{is_of};
 
 use archive_open::{FileEntry, SegmentPlace};
 

@@ -35,8 +35,8 @@ use Rattle.search_walk.specs.Opened.{IsRead, ReadsOpened, columns_at}
 use Rattle.search_meaning.specs.Journal.{MissesBarren, ReadsNoBarren}
 use Rattle.search_walk.proofs.PagesReadLemmas.{two_added}
 use Rattle.search_walk.proofs.RowsHeld.{names_in}
-use Rattle.search_walk.proofs.HeldLemmas.{front_more, place_in, types_more}
-use Rattle.search_walk.proofs.OrderLemmas.{In, contains_in}
+use Rattle.archive_open.proofs.FileOrderLemmas.{front_more, place_in, types_more}
+use Rattle.archive_open.proofs.SortedLemmas.{In, contains_in}
 
 -- ---- where a segment stands in its journal
 

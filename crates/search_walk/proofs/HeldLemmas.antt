@@ -1,6 +1,6 @@
 -- The segments of an opened archive hold the messages of its journal's content, by file and then by number.
 use Rattle.std.proofs.Common.{◌≡◌, refl, sym, ap, ap₂, subst, ◌∙◌, ◌+◌, ℕ, zero, suc, Bool, true, false, cond, List, [], ◌∷◌, ◌++◌, Some, length, map, get_or, append_assoc, arith, length-append}
-use Rattle.std.specs.Prelude.{◌==◌, ◌||◌, ◌&&◌, if◌then◌else◌, slice_get}
+use Rattle.std.specs.Prelude.{◌==◌, if◌then◌else◌, slice_get}
 use Rattle.std.specs.List.{filter, flat_map}
 use Rattle.std.proofs.lemmas.List.{append-nil}
 use Rattle.std.proofs.lemmas.List.Concat.{flat_map-cons}
@@ -20,38 +20,20 @@ use Rattle.segment_pages.proofs.StandLemmas.{segments_held}
 use Rattle.archive_meaning.specs.declared.entry.SegmentEntry.{SegmentEntry}
 use Rattle.archive_meaning.specs.declared.entry.JournalEntry.{JournalEntry}
 use Rattle.archive_meaning.specs.declared.entry.JournalEntry.TheVariants.{Files, Types, Words, Segment}
-use Rattle.archive_meaning.specs.Held.{Held, Piece, is_whole, messages_of, nothing_held}
+use Rattle.archive_meaning.specs.Held.{Held, messages_of, nothing_held}
 use Rattle.archive_meaning.specs.Legal.{Accepts, AddsSegment, Run, piece_of}
 use Rattle.archive_meaning.specs.Spelled.{front_of, record_of, types_in, types_of}
 use Rattle.archive_meaning.specs.Stands.{StandsFor}
-use Rattle.archive_meaning.proofs.JudgeLemmas.{end_more, run_types}
+use Rattle.archive_meaning.proofs.JudgeLemmas.{run_types}
 use Rattle.archive_meaning.proofs.LegalLemmas.{types_after}
-use Rattle.archive_meaning.proofs.SumsLemmas.{messages_joined, whole_joined}
 use Rattle.archive_open.specs.declared.files.FileEntry.{FileEntry}
 use Rattle.archive_open.specs.declared.segments.SegmentPlace.{SegmentPlace}
+use Rattle.archive_open.specs.OfFile.{is_of}
 use Rattle.archive_open.specs.Shown.{head_in, places_from}
+use Rattle.archive_open.proofs.FileOrderLemmas.{front_more, piece_messages, place_in, same_file, types_more}
 use Rattle.printed_lines.specs.Lines.{numbered}
 use Rattle.search_walk.proofs.RowsHeld.{HasRows, HaveRows, texts_of}
 use Rattle.printed_lines.proofs.LineLemmas.{numbered_append}
-
--- the segment is one of the file of a number
-abbrev pub is_of : ℕ → SegmentPlace → Bool
-is_of number place = place.head.file == number
-
--- ---- pieces
-
-pub piece_messages : (number : ℕ) (ps : List Piece) (p : Piece) → messages_of number (ps ++ p ∷ []) ≡ messages_of number ps ++ (if p.file == number then p.messages else [])
-piece_messages number ps p = messages_joined number ps (p ∷ []) ∙ ap (λ l. messages_of number ps ++ l) (append-nil _)
-
-pub or_false : (b : Bool) → b || false ≡ b
-or_false true = refl
-or_false false = refl
-
-pub piece_whole : (number : ℕ) (ps : List Piece) (p : Piece) → is_whole number (ps ++ p ∷ []) ≡ is_whole number ps || (p.file == number && p.last)
-piece_whole number ps p = whole_joined number ps (p ∷ []) ∙ ap (λ b. is_whole number ps || b) (or_false _)
-
-pub same_file : (a b : ℕ) → (a == b) ≡ true → a ≡ b
-same_file a b e = grind (arith, e)
 
 -- ---- runs only add texts
 
@@ -88,22 +70,6 @@ run_distinct h old more (e ∷ es) distinct run = run_distinct h run.0 more es (
 pub nothing_distinct : AreDistinct nothing_held.words
 nothing_distinct zero j text one two = absurd (cc (one))
 nothing_distinct (suc i) j text one two = absurd (cc (one))
-
--- ---- where entries stand
-
-types_joined : (es fs : List JournalEntry) → types_of (es ++ fs) ≡ types_of es ++ types_of fs
-types_joined [] fs = refl
-types_joined (e ∷ es) fs = ap (λ l. types_in e ++ l) (types_joined es fs) ∙ sym (append_assoc (types_in e) (types_of es) (types_of fs))
-
-pub types_more : (es : List JournalEntry) (e : JournalEntry) → types_of (es ++ e ∷ []) ≡ types_of es ++ types_in e
-types_more es e = types_joined es (e ∷ []) ∙ ap (λ l. types_of es ++ l) (append-nil (types_in e))
-
-pub front_more : (h : Header) (es : List JournalEntry) (e : JournalEntry) → length (front_of h (es ++ e ∷ [])) ≡ length (front_of h es) + 10 + length (record_of (types_of es) e).payload
-front_more h es e = omega (arith, end_more h es e)
-
--- a segment whose gate is at a place, behind entries with these log types
-abbrev pub place_in : ℕ → List (List ℕ) → SegmentEntry → SegmentPlace
-place_in at types s = record { at = at; payload = at + 10; length = length (record_of types (Segment s)).payload; head = head_in types s }
 
 -- ---- the messages
 

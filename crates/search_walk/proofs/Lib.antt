@@ -2,7 +2,6 @@ pub mod AskLemmas
 pub mod RowsHeld
 pub mod HeldLemmas
 pub mod GroupLemmas
-pub mod OrderLemmas
 pub mod AsideLemmas
 pub mod PagesReadLemmas
 pub mod AnswerLemmas

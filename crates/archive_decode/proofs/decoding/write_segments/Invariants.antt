@@ -1,7 +1,8 @@
 use Rattle.std.proofs.Common.{◌≡◌, ℕ, List, Some, drop}
 use Rattle.std.specs.List.{filter}
 use Rattle.log_seams.specs.Disk.{Rests}
-use Rattle.archive_decode.specs.StepsHeld.{HoldAll, is_of}
+use Rattle.archive_open.specs.OfFile.{is_of}
+use Rattle.archive_text.specs.Meant.{HoldAll}
 use Rattle.archive_decode.proofs.FileLemmas.{GoingAll}
 use Rattle.archive_decode.proofs.decoding.write_segments.Given as goal
 

@@ -1,5 +1,5 @@
 use Rattle.std.proofs.Common.{◌≡◌, ℕ, List, take}
-use Rattle.archive_decode.specs.StepsHeld.{AreMeant}
+use Rattle.archive_text.specs.Meant.{AreMeant}
 use Rattle.archive_decode.specs.StepsLines.{Adds}
 use Rattle.archive_decode.proofs.segment.write_page.Given as goal
 

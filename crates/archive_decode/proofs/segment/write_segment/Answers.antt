@@ -2,7 +2,8 @@ use Rattle.std.proofs.Common.{refl, rules, ◌∙◌}
 use Rattle.std.proofs.lemmas.Result.{err_from_is_err_and}
 use Rattle.log_seams.proofs.MomentLemmas.{rests_on}
 use Rattle.archive_decode.proofs.LinesLemmas.{on_err}
-use Rattle.archive_decode.proofs.SegmentLemmas.{going_done, going_failed, going_first, going_kept, going_none, going_not, going_on, page_damaged, rests_none}
+use Rattle.log_seams.proofs.ReadsLemmas.{rests_same}
+use Rattle.archive_decode.proofs.SegmentLemmas.{going_done, going_failed, going_first, going_kept, going_none, going_not, going_on, page_damaged}
 use Rattle.archive_decode.proofs.segment.write_segment.Goals as goal
 
 pub returns-in_default-clause-err : goal.returns-in_default-clause-err
@@ -13,7 +14,7 @@ returns-in_default-clause-damaged g c = λ is bytes messages told has. c.in_defa
 
 pub loop-pages-init : goal.loop-pages-init
 loop-pages-init g c = record {
-  rests = rests_none (g.D.Disk.state c.args.disk.now);
+  rests = rests_same (g.D.Disk.state c.args.disk.now);
   going = λ bytes messages told has. going_first _ _ c.in-Some.pages c.args.place.now bytes _ c.args.lines.now messages c.in-Some.ensures.holds has;
   disk = refl;
   sink = refl;

@@ -1,6 +1,6 @@
 use Rattle.std.proofs.Common.{◌≡◌, ◌-◌, ℕ, List, Some}
 use Rattle.log_seams.specs.Disk.{Rests}
-use Rattle.archive_decode.specs.StepsHeld.{HoldsMessages}
+use Rattle.archive_text.specs.Meant.{HoldsMessages}
 use Rattle.archive_decode.proofs.SegmentLemmas.{Going}
 use Rattle.archive_decode.proofs.segment.write_segment.Given as goal
 

@@ -10,12 +10,12 @@ use Rattle.archive_merge.specs.Sealing.{MovesSegment, books_in}
 use Rattle.archive_merge.specs.Taken.{texts_by}
 use Rattle.archive_merge.proofs.FileLemmas.{came_over, cause_since, contains_place, err_not_ok, holds_next, moved_reached, next_reached, way_begins, way_moves}
 use Rattle.archive_merge.proofs.SealingLemmas.{adds_at, adds_reached, adds_self, texts_then}
-use Rattle.archive_decode.proofs.SegmentLemmas.{rests_none}
+use Rattle.log_seams.proofs.ReadsLemmas.{rests_same}
 use Rattle.archive_merge.proofs.file.move_file.Goals as goal
 
 pub loop-place-init : goal.loop-place-init
 loop-place-init g c = record {
-  rests = rests_none (g.E.Disk.state c.args.disk.now);
+  rests = rests_same (g.E.Disk.state c.args.disk.now);
   mover = c.requires.mover;
   named = adds_self _ c.args.namer.now;
   way = way_begins _ _ _ _ _ _ c.args.file.now c.new-hand.result c.requires.new c.requires.mover.worker.ready c.new-hand.ensures.file c.new-hand.ensures.empty c.new-hand.ensures.sum;

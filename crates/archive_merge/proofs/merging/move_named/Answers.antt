@@ -1,5 +1,5 @@
 use Rattle.std.proofs.Common.{inl, inr, refl}
-use Rattle.archive_decode.proofs.SegmentLemmas.{rests_none}
+use Rattle.log_seams.proofs.ReadsLemmas.{rests_same}
 use Rattle.archive_merge.proofs.MergingLemmas.{not_read_again, was_read}
 use Rattle.archive_merge.proofs.merging.move_named.Goals as goal
 
@@ -13,4 +13,4 @@ pub returns-in-Err-clause-came : goal.returns-in-Err-clause-came
 returns-in-Err-clause-came g c = inr (refl, c.in-Err.ensures.files, c.in-Err.ensures.refused.0)
 
 pub returns-in-Err-clause-second : goal.returns-in-Err-clause-second
-returns-in-Err-clause-second g c = not_read_again g.E.Disk.state c.args.second c.in-Err.refused.second (rests_none _) c.in-Err.ensures.refused.1
+returns-in-Err-clause-second g c = not_read_again g.E.Disk.state c.args.second c.in-Err.refused.second (rests_same _) c.in-Err.ensures.refused.1

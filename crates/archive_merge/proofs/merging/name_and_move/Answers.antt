@@ -2,7 +2,7 @@ use Rattle.std.proofs.Common.{rules, ◌≡◌, None, Some, arith, subst, sym}
 use Rattle.std.proofs.lemmas.List.{length-map}
 use Rattle.disk_journal.specs.Journal.{state_of}
 use Rattle.archive_open.specs.declared.files.FileEntry.{FileEntry}
-use Rattle.archive_decode.proofs.SegmentLemmas.{rests_none}
+use Rattle.log_seams.proofs.ReadsLemmas.{rests_same}
 use Rattle.archive_merge.specs.Merging.{view_of}
 use Rattle.name_records.specs.Named.{AreNamed, names_of}
 use Rattle.archive_merge.proofs.MergingLemmas.{books_held, ends_by, may_begin, names_only, no_room, not_read_for_memory, not_read_for_names}
@@ -12,7 +12,7 @@ pub returns-in_default-clause-ends : goal.returns-in_default-clause-ends
 returns-in_default-clause-ends g c = no_room g.met.D.Disk.lawful _ c.args.first _ c.args.journal c.requires.begin.opens _ (search rules)
 
 pub returns-in_default-clause-second : goal.returns-in_default-clause-second
-returns-in_default-clause-second g c = not_read_for_memory g.E.Disk.state c.args.second.disk (rests_none _)
+returns-in_default-clause-second g c = not_read_for_memory g.E.Disk.state c.args.second.disk (rests_same _)
 
 pub number_files-requires-clause-room : goal.number_files-requires-clause-room
 number_files-requires-clause-room g c =
@@ -32,7 +32,7 @@ returns-in-Some-clause-ends g c =
     (subst (λ n. AreNamed c.args.first names n (Some c.in-Some.why) old new) (sym c.number_files.ensures.counted) are) c.number_files.ensures.fresh
 
 pub returns-in-Some-clause-second : goal.returns-in-Some-clause-second
-returns-in-Some-clause-second g c = not_read_for_names g.E.Disk.state c.in-Some.why c.args.second.disk (rests_none _)
+returns-in-Some-clause-second g c = not_read_for_names g.E.Disk.state c.in-Some.why c.args.second.disk (rests_same _)
 
 pub move_named-requires-clause-begin : goal.move_named-requires-clause-begin
 move_named-requires-clause-begin g c =

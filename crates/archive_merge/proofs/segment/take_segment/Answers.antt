@@ -8,7 +8,7 @@ use Rattle.row_rename.proofs.PathLemmas.{path_none, path_then}
 use Rattle.archive_merge.specs.declared.stop.Stop.TheVariants.{SecondDamaged}
 use Rattle.archive_merge.specs.Stops.{stop_by_page}
 use Rattle.archive_merge.proofs.HandLemmas.{marks_then}
-use Rattle.archive_decode.proofs.SegmentLemmas.{rests_none}
+use Rattle.log_seams.proofs.ReadsLemmas.{rests_same}
 use Rattle.archive_merge.proofs.SegmentLemmas.{named_none, named_then, page_damaged, way_done, way_first, way_named, way_none, way_not, way_on}
 use Rattle.archive_merge.proofs.segment.take_segment.Goals as goal
 
@@ -17,7 +17,7 @@ returns-in_default-clause-damaged g c = λ is bytes told may. c.in_default.ensur
 
 pub loop-pages-init : goal.loop-pages-init
 loop-pages-init g c = record {
-  rests = rests_none (g.E.Disk.state c.args.disk.now);
+  rests = rests_same (g.E.Disk.state c.args.disk.now);
   version = refl;
   named = named_none _ _ _ _ _ c.requires.serves;
   path = path_none g.N.Namer.naming _;

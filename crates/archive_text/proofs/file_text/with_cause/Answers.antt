@@ -2,7 +2,7 @@ use Rattle.std.proofs.Common.{◌≡◌, ap, arith, subst, sym, ◌∙◌}
 use Rattle.std.specs.Prelude.{IfSome}
 use Rattle.log_seams.specs.Disk.{Rests}
 use Rattle.archive_open.specs.Shown.{StandsForNone}
-use Rattle.archive_decode.proofs.SegmentLemmas.{rests_none}
+use Rattle.log_seams.proofs.ReadsLemmas.{rests_same}
 use Rattle.archive_text.specs.Caused.{CountsBy}
 use Rattle.archive_text.specs.State.{StoredState}
 use Rattle.archive_text.specs.Told.{file_parts}
@@ -25,7 +25,7 @@ invariant_of-result g c =
     record {
       layouts = c.requires.layouts ∙ ap (λ (v : StoredState _). v.types) (sym view);
       same = same;
-      rests = subst (λ d. Rests (state d) (state c.args.disk.now)) (sym now) (rests_none (state c.args.disk.now));
+      rests = subst (λ d. Rests (state d) (state c.args.disk.now)) (sym now) (rests_same (state c.args.disk.now));
       counts = subst (λ d. CountsBy (state d).faults (state c.args.disk.now).faults c.args.cause) (sym now) (counts_first (state c.args.disk.now).faults c.args.cause c.requires.fault);
       untold = λ none. subst (λ s. IfSome s StandsForNone) (sym same) (c.text.invariant none);
       damaged = λ e. absurd (c.requires.damaged e);

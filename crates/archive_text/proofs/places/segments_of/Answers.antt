@@ -4,7 +4,7 @@ use Rattle.std.specs.List.Sorted.{IsPartitionPoint}
 use Rattle.std.proofs.lemmas.List.{take_rest}
 use Rattle.std.proofs.lemmas.List.Sorted.{IsNonDecreasingBy-drop, IsNonDecreasingBy-take, IsPartitionPoint-from_clause, IsPartitionedBy-leb, IsPartitionedBy-ltb}
 use Rattle.archive_open.specs.declared.segments.SegmentPlace.{SegmentPlace}
-use Rattle.archive_decode.specs.StepsHeld.{is_of}
+use Rattle.archive_open.specs.OfFile.{is_of}
 use Rattle.archive_text.proofs.PlacesLemmas.{found_run}
 use Rattle.archive_text.proofs.places.segments_of.Goals as goal
 

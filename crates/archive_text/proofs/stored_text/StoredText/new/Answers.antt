@@ -5,7 +5,7 @@ use Rattle.archive_open.specs.Archive.{shown}
 use Rattle.archive_open.specs.Kept.{Kept}
 use Rattle.archive_open.specs.Shown.{Opens}
 use Rattle.archive_open.specs.declared.segments.SegmentPlace.{SegmentPlace}
-use Rattle.archive_decode.specs.StepsHeld.{is_of}
+use Rattle.archive_open.specs.OfFile.{is_of}
 use Rattle.archive_text.specs.Told.{TellsFile, file_parts}
 use Rattle.archive_text.proofs.CauseLemmas.{kept_all}
 use Rattle.archive_text.proofs.DecideText.{told_is}

@@ -1,5 +1,5 @@
 -- The messages that segments on a disk hold.
-use Rattle.std.specs.Prelude.{◌≡◌, ◌==◌, ℕ, List, [], ◌∷◌, ◌++◌, Bool}
+use Rattle.std.specs.Prelude.{◌≡◌, ℕ, List, [], ◌∷◌, ◌++◌}
 use Rattle.std.specs.List.{AllZip}
 use Rattle.column_store.specs.declared.row.Row.{Row}
 use Rattle.row_codec.specs.Means.{Means}
@@ -23,7 +23,3 @@ HoldAll types words [] bytes messages = messages ≡ []
 HoldAll types words (place ∷ places) bytes messages =
     (first : List (List ℕ)) × (rest : List (List ℕ)) × (messages ≡ first ++ rest)
     × HoldsMessages types words place bytes first × HoldAll types words places bytes rest
-
--- the segment is one of the file of a number
-abbrev pub is_of : ℕ → SegmentPlace → Bool
-is_of number place = place.head.file == number

@@ -1,9 +1,8 @@
 -- The segments of a file in an opened archive hold the messages of that file, in order.
-use Rattle.std.proofs.Common.{◌≡◌, refl, sym, ap, ap₂, subst, ◌∙◌, ◌+◌, ◌*◌, ◌^◌, ℕ, zero, suc, Bool, true, false, cond, List, [], ◌∷◌, ◌++◌, Some, length, map, get_or, append_assoc, arith, length-append}
-use Rattle.std.specs.Prelude.{◌==◌, ◌||◌, ◌&&◌, if◌then◌else◌, slice_get}
-use Rattle.std.specs.List.{AllZip, filter}
+use Rattle.std.proofs.Common.{◌≡◌, refl, sym, ap, ap₂, subst, ◌∙◌, ◌+◌, ℕ, zero, suc, Bool, true, false, cond, List, [], ◌∷◌, ◌++◌, Some, length, map, get_or, append_assoc, arith}
+use Rattle.std.specs.Prelude.{◌==◌, if◌then◌else◌, slice_get}
+use Rattle.std.specs.List.{filter}
 use Rattle.std.proofs.lemmas.List.{append-nil}
-use Rattle.std.proofs.lemmas.Slice.Zip.{AllZip-long}
 use mathlib.Core.List.{IsPrefix}
 use Rattle.record_format.specs.declared.header.Header.{Header}
 use Rattle.column_store.specs.declared.row.Row.{Row}
@@ -13,33 +12,18 @@ use Rattle.segment_pages.specs.Laws.{SegmentsAreHeld}
 use Rattle.archive_meaning.specs.declared.entry.SegmentEntry.{SegmentEntry}
 use Rattle.archive_meaning.specs.declared.entry.JournalEntry.{JournalEntry}
 use Rattle.archive_meaning.specs.declared.entry.JournalEntry.TheVariants.{Files, Types, Words, Segment}
-use Rattle.archive_meaning.specs.Held.{File, Held, Piece, files_from, is_whole, messages_of, nothing_held}
+use Rattle.archive_meaning.specs.Held.{File, Held, Piece, files_from, messages_of, nothing_held}
 use Rattle.archive_meaning.specs.Legal.{Accepts, AddsSegment, Run, piece_of}
 use Rattle.archive_meaning.specs.Spelled.{front_of, record_of, types_in, types_of}
 use Rattle.archive_meaning.specs.Stands.{StandsFor}
-use Rattle.archive_meaning.proofs.JudgeLemmas.{end_more, run_types}
-use Rattle.archive_meaning.proofs.SumsLemmas.{messages_joined, whole_joined}
+use Rattle.archive_meaning.proofs.JudgeLemmas.{run_types}
 use Rattle.archive_open.proofs.NextLemmas.{front_length}
+use Rattle.archive_open.proofs.FileOrderLemmas.{file_in_order, front_more, piece_messages, place_in, types_more}
+use Rattle.archive_open.specs.OfFile.{is_of}
 use Rattle.archive_open.specs.declared.files.FileEntry.{FileEntry}
 use Rattle.archive_open.specs.declared.segments.SegmentPlace.{SegmentPlace}
-use Rattle.archive_open.specs.Shown.{IsArchiveOf, Shown, counted, head_in, order_of, places_from, places_of}
-use Rattle.archive_decode.specs.StepsHeld.{AreMeant, HoldAll, HoldsMessages, is_of}
-use Rattle.archive_decode.proofs.OrderLemmas.{AreAbove, AreAtLeast, Rise, above_from, least_lower, sorted_filter}
-
--- ---- pieces
-
-piece_messages : (number : ℕ) (ps : List Piece) (p : Piece) → messages_of number (ps ++ p ∷ []) ≡ messages_of number ps ++ (if p.file == number then p.messages else [])
-piece_messages number ps p = messages_joined number ps (p ∷ []) ∙ ap (λ l. messages_of number ps ++ l) (append-nil _)
-
-or_false : (b : Bool) → b || false ≡ b
-or_false true = refl
-or_false false = refl
-
-piece_whole : (number : ℕ) (ps : List Piece) (p : Piece) → is_whole number (ps ++ p ∷ []) ≡ is_whole number ps || (p.file == number && p.last)
-piece_whole number ps p = whole_joined number ps (p ∷ []) ∙ ap (λ b. is_whole number ps || b) (or_false _)
-
-same_file : (a b : ℕ) → (a == b) ≡ true → a ≡ b
-same_file a b e = grind (arith, e)
+use Rattle.archive_open.specs.Shown.{IsArchiveOf, Shown, counted, places_from, places_of}
+use Rattle.archive_text.specs.Meant.{AreMeant, HoldAll, HoldsMessages}
 
 -- ---- runs only add texts
 
@@ -61,22 +45,6 @@ run_words h old more (e ∷ es) run = prefix_then old.words run.0.words more.wor
 
 run_front : (h : Header) (old more : Held) (es : List JournalEntry) → Run h old es more → IsPrefix old.types more.types
 run_front h old more es run = (types_of es, sym (run_types h old more es run))
-
--- ---- where entries stand
-
-types_joined : (es fs : List JournalEntry) → types_of (es ++ fs) ≡ types_of es ++ types_of fs
-types_joined [] fs = refl
-types_joined (e ∷ es) fs = ap (λ l. types_in e ++ l) (types_joined es fs) ∙ sym (append_assoc (types_in e) (types_of es) (types_of fs))
-
-types_more : (es : List JournalEntry) (e : JournalEntry) → types_of (es ++ e ∷ []) ≡ types_of es ++ types_in e
-types_more es e = types_joined es (e ∷ []) ∙ ap (λ l. types_of es ++ l) (append-nil (types_in e))
-
-front_more : (h : Header) (es : List JournalEntry) (e : JournalEntry) → length (front_of h (es ++ e ∷ [])) ≡ length (front_of h es) + 10 + length (record_of (types_of es) e).payload
-front_more h es e = omega (arith, end_more h es e)
-
--- a segment whose gate is at a place, behind entries with these log types
-abbrev place_in : ℕ → List (List ℕ) → SegmentEntry → SegmentPlace
-place_in at types s = record { at = at; payload = at + 10; length = length (record_of types (Segment s)).payload; head = head_in types s }
 
 -- ---- the messages
 
@@ -144,68 +112,6 @@ module _ (bytes : List ℕ) (h : Header) (all : List JournalEntry) (stood : Stan
       by_entry (Words first texts) is a f g later = record { messages = later.messages; are = later.are ∙ ap (λ m. messages_of number m.pieces ++ later.messages) a.1; hold = later.hold }
       by_entry (Segment s) is a f g later = segment_held before es s a.0 old run.0 more at types is a.1 a.2 f g place ts later
 
--- ---- the order
-
--- the file's segments begin at a message or later ones, each behind the one before, and a whole file has none
-record IsOrdered (number floor : ℕ) (whole : Bool) (places : List SegmentPlace) : Type 0 where
-  pub least : AreAtLeast order_of (number * 2 ^ 64 + floor) places
-  pub rise : Rise order_of places
-  pub none : whole ≡ true → places ≡ []
-
-ordered_kept : (number : ℕ) (a b : List Piece) (places : List SegmentPlace) → a ≡ b → IsOrdered number (length (messages_of number a)) (is_whole number a) places → IsOrdered number (length (messages_of number b)) (is_whole number b) places
-ordered_kept number a b places e is = subst (λ ps. IsOrdered number (length (messages_of number ps)) (is_whole number ps) places) e is
-
-module _ (h : Header) (number : ℕ) where
-  segment_ordered : (old mid : Held) (s : SegmentEntry) (messages : List (List ℕ)) (place : SegmentPlace) (later : List SegmentPlace)
-      → place.head.file ≡ s.file → place.head.first ≡ s.first → AddsSegment h.version old s messages → (mid ≡ record old { pieces = old.pieces ++ piece_of s messages ∷ [] })
-      → IsOrdered number (length (messages_of number mid.pieces)) (is_whole number mid.pieces) later
-      → (b : Bool) → (s.file == number) ≡ b
-      → IsOrdered number (length (messages_of number old.pieces)) (is_whole number old.pieces) (cond b (place ∷ later) later)
-  segment_ordered old mid s messages place later file first adds e rest false t =
-      let count = ap (λ m. length (messages_of number m.pieces)) e ∙ (ap length (piece_messages number old.pieces (piece_of s messages)) ∙ ap (λ b. length (messages_of number old.pieces ++ (if b then messages else []))) t ∙ ap length (append-nil (messages_of number old.pieces))) in
-      let whole = ap (λ m. is_whole number m.pieces) e ∙ (piece_whole number old.pieces (piece_of s messages) ∙ (ap (λ b. is_whole number old.pieces || (b && s.last)) t ∙ or_false _)) in
-      subst (λ w. IsOrdered number (length (messages_of number old.pieces)) w later) whole (subst (λ n. IsOrdered number n (is_whole number mid.pieces) later) count rest)
-  segment_ordered old mid s messages place later file first adds e rest true t =
-      record {
-        least = (omega (arith, order), least_lower order_of (number * 2 ^ 64 + length (messages_of number old.pieces)) (number * 2 ^ 64 + length (messages_of number mid.pieces)) later (omega (arith, count)) rest.least);
-        rise = (above s.last refl, rest.rise);
-        none = λ w. absurd (not_both w (ap (λ n. is_whole n old.pieces) (sym same) ∙ adds.goes_on));
-      }
-    where
-      same : s.file ≡ number
-      same = same_file s.file number t
-
-      count : length (messages_of number mid.pieces) ≡ length (messages_of number old.pieces) + length messages
-      count = ap (λ m. length (messages_of number m.pieces)) e ∙ (ap length (piece_messages number old.pieces (piece_of s messages)) ∙ ap (λ b. length (messages_of number old.pieces ++ (if b then messages else []))) t ∙ length-append (messages_of number old.pieces) messages)
-
-      order : order_of place ≡ number * 2 ^ 64 + length (messages_of number old.pieces)
-      order = ap₂ (λ f n. f * 2 ^ 64 + n) (file ∙ same) (first ∙ (adds.first ∙ ap (λ n. length (messages_of n old.pieces)) same))
-
-      not_both : is_whole number old.pieces ≡ true → is_whole number old.pieces ≡ false → ⊥
-      not_both p q = cc
-
-      or_true : (b : Bool) → b || true ≡ true
-      or_true true = refl
-      or_true false = refl
-
-      above : (last : Bool) → s.last ≡ last → AreAbove order_of (order_of place) later
-      above true is =
-          let whole = ap (λ m. is_whole number m.pieces) e ∙ (piece_whole number old.pieces (piece_of s messages) ∙ (ap₂ (λ a b. is_whole number old.pieces || (a && b)) t is ∙ or_true _)) in
-          subst (AreAbove order_of (order_of place)) (sym (rest.none whole)) tt
-      above false is = above_from order_of (order_of place) (number * 2 ^ 64 + length (messages_of number mid.pieces)) later (omega (arith, order, count, adds.some is, AllZip-long _ s.rows messages adds.canonical)) rest.least
-
-  ordered : (at : ℕ) (types : List (List ℕ)) (es : List JournalEntry) (old more : Held) → Run h old es more → IsOrdered number (length (messages_of number old.pieces)) (is_whole number old.pieces) (filter (is_of number) (places_from at types es))
-  ordered at types [] old more run = record { least = tt; rise = tt; none = λ w. refl }
-  ordered at types (e ∷ es) old more run = by_entry e run.1 (ordered (at + 10 + length (record_of types e).payload) (types ++ types_in e) es run.0 more run.2)
-    where
-      by_entry : (e : JournalEntry) → Accepts h old e run.0
-          → IsOrdered number (length (messages_of number run.0.pieces)) (is_whole number run.0.pieces) (filter (is_of number) (places_from (at + 10 + length (record_of types e).payload) (types ++ types_in e) es))
-          → IsOrdered number (length (messages_of number old.pieces)) (is_whole number old.pieces) (filter (is_of number) (places_from at types (e ∷ es)))
-      by_entry (Files names) a later = ordered_kept number run.0.pieces old.pieces (filter (is_of number) (places_from (at + 10 + length (record_of types (Files names)).payload) (types ++ types_in (Files names)) es)) (ap (λ m. m.pieces) a) later
-      by_entry (Types first texts) a later = ordered_kept number run.0.pieces old.pieces (filter (is_of number) (places_from (at + 10 + length (record_of types (Types first texts)).payload) (types ++ types_in (Types first texts)) es)) (ap (λ m. m.pieces) a.1) later
-      by_entry (Words first texts) a later = ordered_kept number run.0.pieces old.pieces (filter (is_of number) (places_from (at + 10 + length (record_of types (Words first texts)).payload) (types ++ types_in (Words first texts)) es)) (ap (λ m. m.pieces) a.1) later
-      by_entry (Segment s) a later = segment_ordered old run.0 s a.0 (place_in at types s) (filter (is_of number) (places_from (at + 10 + length (record_of types (Segment s)).payload) (types ++ types_in (Segment s)) es)) refl refl a.1 a.2 later (s.file == number) refl
-
 -- ---- files
 
 -- the segments of a file in the archive of a journal hold the file's messages
@@ -214,8 +120,7 @@ pub file_held : (bytes : List ℕ) (h : Header) (es : List JournalEntry) (a : Sh
 file_held bytes h es a number stood law is =
     let held = stood.legal.held in
     let from = held_from bytes h es stood law number [] es nothing_held held 32 [] refl stood.legal.run (sym (front_none h)) refl in
-    let order = ordered h number 32 [] es nothing_held held stood.legal.run in
-    let sorted = sorted_filter order_of (is_of number) (places_of es) a.segments is.segments is.sorted order.rise in
+    let sorted = file_in_order h es held a number stood.legal.run is in
     subst (λ l. HoldAll a.kept.types a.kept.words l bytes (messages_of number held.pieces)) (sym sorted)
     (subst (λ m. HoldAll a.kept.types a.kept.words (filter (is_of number) (places_of es)) bytes m) (sym from.are)
     (subst (λ k. HoldAll k.types k.words (filter (is_of number) (places_of es)) bytes from.messages) (sym is.kept) from.hold))
