@@ -133,8 +133,8 @@ fn add_lent<D: Disk, E: Disk, R: Wait, L: Lent>(
     answer
 }
 
-/// The same over any disk: what is said of its bytes is said where they are those of the archive
-/// that is known.
+/// Adds the files of the second archive behind those of the archive of any disk. What is said of
+/// the disk's bytes is said where they are those of the archive that is known.
 fn add_known<D: Disk, E: Disk, R: Wait, B: Base>(
     rt: &R,
     alloc: Global,

@@ -118,8 +118,8 @@ fn merge_into<'s, 'd, M: Names, E: Disk, D: Disk, R: Wait>(
     }
 }
 
-/// The same for an archive that was opened, over its disk. Both are lent for lifetimes of their own:
-/// with one for both it would not be known how the loan of the disk ends.
+/// Merges an archive that was opened, over its disk, into a journal. Both are lent for lifetimes of
+/// their own: with one for both it would not be known how the loan of the disk ends.
 fn merge_opened<'a: 's, 's, 'd, E: Disk, D: Disk, R: Wait>(
     rt: &R,
     alloc: Global,

@@ -46,7 +46,7 @@ came_by (f ∷ fs) [] ks = []
 came_by (f ∷ fs) (j ∷ js) [] = []
 came_by (f ∷ fs) (j ∷ js) (k ∷ ks) = outcome_by f j k ∷ came_by fs js ks
 
--- the same as it is printed, by what came of its job
+-- what came of a file as it is printed, by what came of its job
 abbrev pub bare_by : FileEntry → Outcome → FileOutcome
 bare_by f o = record { name = f.name; log = None; opened = true; messages = o.messages; whole = o.whole; refusal = option_map of_cause o.cause }
 

@@ -33,7 +33,7 @@ RefusesOld old new (UpgradeRefusal.AlreadyNewest version) =
     (version ≡ LAST_VERSION) × OfJournal old.seen (λ h es held. h.version ≡ LAST_VERSION)
 RefusesOld old new _ = ⊥
 
--- the same of an archive that was opened, which may be a damaged one
+-- why an archive that was opened is not upgraded: it may be a damaged one
 abbrev pub RefusesOpened : Shown → UpgradeRefusal → Type 0
 RefusesOpened a (UpgradeRefusal.Damaged at) = (at ≡ a.end - 1) × ¬ MayBeNamed a.files
 RefusesOpened a UpgradeRefusal.OutOfMemory = Unit {0}

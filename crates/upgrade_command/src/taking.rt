@@ -136,7 +136,8 @@ fn take_lent<
     }
 }
 
-/// The same over any disk. It is only read.
+/// Takes the files of the archive of any disk into a new archive on the second disk. The first disk
+/// is only read.
 pub(crate) fn take_files<
     R: Threads + Wait + Sync,
     D: Disk + Send,

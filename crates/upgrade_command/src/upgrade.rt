@@ -16,7 +16,8 @@ use std::alloc::Global;
 use std::sync::Wait;
 use std::thread::Threads;
 
-/// The same, with the texts of the archive kept as `N` keeps them.
+/// Takes the files of the archive into a new one on the second disk, and prints a line for each new
+/// file. The texts of the archive are kept as `N` keeps them.
 fn upgrade_by<
     R: Threads + Wait + Sync,
     D: Disk + Send,

@@ -23,7 +23,7 @@ impl LentOut for Brand {
     ghost had = { None };
 }
 
-/// The same output, which has what it had and more.
+/// An output that was lent, which has what it had and more.
 #[derive(Drop)]
 pub(crate) struct Extended<'o, K: Sink, L: LentOut> {
     /// The output.

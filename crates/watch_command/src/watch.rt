@@ -91,8 +91,8 @@ where
     (answer, out)
 }
 
-/// The same over any disk: what is said of its bytes is said where they are those of the archive that
-/// is known.
+/// Adds the logs to the archive of any disk, and prints what of them matches. What is said of the
+/// disk's bytes is said where they are those of the archive that is known.
 fn add_known<'a, R: Threads + Wait + Sync, H: Shelf, D: Disk + Send, K: Sink + Send, B: Base>(
     rt: &R,
     alloc: Global,
@@ -133,7 +133,8 @@ where
     answer
 }
 
-/// The same for a pattern that was read. Tells what came of each log.
+/// Adds the logs to the archive, prints what of them matches a pattern that was read, and tells
+/// what came of each log.
 fn watch_pattern<R: Threads + Wait + Sync, H: Shelf, D: Disk + Send, K: Sink + Send, B: Base>(
     rt: &R,
     alloc: Global,

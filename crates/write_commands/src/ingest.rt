@@ -401,7 +401,8 @@ where
     }
 }
 
-/// The same over the disk of the archive. Answers the number of the first new file.
+/// Adds the logs to an archive that was opened, over its disk, with a follower of its journal
+/// beside the workers. Answers the number of the first new file.
 pub fn add_over<'a, R: Threads + Wait + Sync, H: Shelf, D: Disk + Send, B: Beside<D> + Send>(
     rt: &R,
     alloc: Global,
@@ -452,8 +453,8 @@ where
     added.answer
 }
 
-/// The same over the disk of the journal, which tells its bytes only where it is to, and is an archive's
-/// there. Answers the number of the first new file, and gives the disk back.
+/// Adds the logs to an archive by its journal, whose disk tells its bytes only where it is to, and
+/// is an archive's there. Answers the number of the first new file, and gives the disk back.
 fn add_founded<'a, 'd, R: Threads + Wait + Sync, H: Shelf, D: Disk + Send, L: Lent + Send>(
     rt: &R,
     alloc: Global,
@@ -542,8 +543,8 @@ where
     answer
 }
 
-/// The same over any disk: what is said of its bytes is said where they are those of the archive that
-/// is known.
+/// Adds the logs to the archive of any disk. What is said of the disk's bytes is said where they
+/// are those of the archive that is known.
 fn add_known<'a, R: Threads + Wait + Sync, H: Shelf, D: Disk + Send, B: Base>(
     rt: &R,
     alloc: Global,
