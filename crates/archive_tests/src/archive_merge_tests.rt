@@ -100,8 +100,9 @@ fn merged_behind<'s, 'd, R: Wait>(
     }
 }
 
-/// The same of an archive that was opened, over its disk, behind an archive with one file. Both are lent
-/// for lifetimes of their own: with one for both it would not be known how the loan of the disk ends.
+/// What comes of an archive that was opened, over its disk, behind an archive with one file. Both
+/// are lent for lifetimes of their own: with one for both it would not be known how the loan of the
+/// disk ends.
 fn merged_opened<'a: 's, 's, 'd, R: Wait>(
     rt: &R,
     alloc: Global,
@@ -121,7 +122,7 @@ fn merged_opened<'a: 's, 's, 'd, R: Wait>(
     merged_behind(rt, alloc, 1, second, journal, books)
 }
 
-/// The same behind the archive of a disk.
+/// What comes of an archive behind the archive of a disk.
 fn merged_over<R: Wait>(
     rt: &R,
     alloc: Global,
@@ -398,7 +399,7 @@ fn merged_files<'a: 's, 's, 'd, R: Wait>(
     merged_behind(rt, alloc, 0, second, journal, empty_books(alloc))
 }
 
-/// The same of one that is made on the disk.
+/// What comes of these files behind an archive without files that is made on the disk.
 fn begun_with<R: Wait>(
     rt: &R,
     alloc: Global,

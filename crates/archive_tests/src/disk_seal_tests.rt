@@ -88,7 +88,7 @@ fn named<R: Wait, A: Ledger, B: Ledger, C: Ledger>(
     names_one(&mut namer)
 }
 
-/// The same over two books of one text each.
+/// What a namer over the passes of two books of one text each answers.
 fn named_in_two_books<R: Wait, A: Ledger, B: Ledger, C: Ledger>(
     rt: &R,
     alloc: Global,

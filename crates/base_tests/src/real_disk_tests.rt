@@ -154,7 +154,7 @@ const READ_ONLY: &[DiskCall] = &[
     DiskCall::Faults(1),
 ];
 
-/// The same file has no sync, which one that only reads does without.
+/// The file has no sync either, which one that only reads does without.
 const NO_SYNC: &[DiskCall] = &[
     DiskCall::Read(0, Ok(8), b"Linux ve"),
     DiskCall::Sync(Ok(())),
@@ -173,7 +173,7 @@ const LOCKED: &[DiskCall] = &[
     DiskCall::Write(0, b"c", Err(Failed)),
 ];
 
-/// The same once it is free.
+/// One that writes a file of two bytes once its lock is free.
 const FREE: &[DiskCall] = &[DiskCall::Len(Ok(2)), DiskCall::Write(0, b"c", Ok(()))];
 
 const TWO_BYTES: &[DiskCall] = &[DiskCall::Read(0, Ok(2), b"ab\0\0\0\0\0\0")];
@@ -209,7 +209,7 @@ fn is_locked_once(rt: &HostRuntime, path: &str, link: &str) -> io::Result<bool> 
     Ok(locked && is_free(rt, &mut late, path, link))
 }
 
-/// The same, with both names removed then.
+/// Whether the file is locked and then free again. Both its names are removed then.
 fn is_locked(rt: &HostRuntime, path: &str, link: &str) -> io::Result<bool> {
     let well = is_locked_once(rt, path, link)?;
     fs::remove_file(rt, path)?;

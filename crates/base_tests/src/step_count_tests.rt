@@ -21,7 +21,7 @@ fn has<L: Ledger>(bytes: &[u8], byte: u8, looks: &mut Steps<L>) -> bool
     false
 }
 
-/// The same for a caller that does not ask for the count.
+/// Whether the byte is among them, for a caller that does not ask for the count.
 fn has_from<L: Ledger>(bytes: &[u8], byte: u8, blank: Blank) -> bool
     requires { OpensFor blank L.name L.parts }
     ensures { IsTrue result ↔ Contains bytes.now byte }

@@ -72,7 +72,7 @@ fn columns_of<L: Ledger>(
     read_columns(alloc, head, payload, &mut steps)
 }
 
-/// The same with a counter that is let go.
+/// The rows of a head, with a counter that is let go.
 fn rows_of(alloc: Global, head: &Head, payload: &[u8]) -> Result<Columns, FormatRefusal>
     requires { IsHead head.now }
 {
@@ -287,7 +287,7 @@ fn pages_of<L: Ledger>(head: &Head, payload: u64, blank: Blank) -> Option<PageRe
     open_pages(head, payload, &mut steps)
 }
 
-/// The same with counters that are let go.
+/// A reader of the pages of a head, with a counter that is let go.
 fn reader_of(head: &Head, payload: u64) -> Option<PageReader>
     requires { IsHead head.now }
 {
@@ -378,7 +378,7 @@ fn has_two_pages(
     Ok(second.rows() == 904 && pages.ask().is_none())
 }
 
-/// The same of the reader of its head, which needs all of its bytes.
+/// Whether the reader of this head, which needs all bytes of the payload, reads two pages of it.
 fn are_paged(alloc: Global, head: &Head, payload: &[u8]) -> Result<bool, AllocError>
     requires { IsHead head.now }
 {
@@ -388,7 +388,7 @@ fn are_paged(alloc: Global, head: &Head, payload: &[u8]) -> Result<bool, AllocEr
     Ok(has_two_pages(alloc, &mut pages, payload)? && reader_of(head, 85_048).is_none())
 }
 
-/// The same of the payload.
+/// Whether the reader of the payload's own head reads two pages of it.
 fn is_paged(alloc: Global, payload: &[u8]) -> Result<bool, AllocError> {
     match head_of(alloc, payload) {
         Some(head) => are_paged(alloc, &head, payload),
@@ -428,7 +428,7 @@ fn is_page_of(alloc: Global, head: &Head, bytes: &[u8]) -> Result<bool, AllocErr
     }
 }
 
-/// The same where the byte at this place is changed.
+/// Whether the page of two rows is still read where the byte at this place is changed.
 fn is_page(alloc: Global, head: &Head, at: usize, byte: u8) -> Result<bool, AllocError>
     requires { IsHead head.now }
 {

@@ -230,7 +230,7 @@ fn seen_by<R: Wait, L: Ledger>(
     unsaved(two, rt, 1, turns).ok()
 }
 
-/// The same of two passes of one book.
+/// The texts that one pass of a book sees once it has learned a note of another one.
 fn noted<R: Wait, L: Ledger>(rt: &R, alloc: Global, blank: Blank) -> Option<TextList>
     requires { OpensFor blank L.name L.parts }
 {
@@ -287,7 +287,8 @@ fn names_by_cache<R: Wait, L: Ledger>(
     named && known && added && refused && held && pass.knows(b"d").is_none()
 }
 
-/// The same of `a`, `b` and `a`, then `b`, then new texts between known ones, then `a` and `d`.
+/// Whether a cache names these lists as it is to: `a`, `b` and `a`, then `b`, then new texts
+/// between known ones, then `a` and `d`.
 fn cached<R: Wait, L: Ledger>(rt: &R, alloc: Global, blank: Blank) -> Option<bool>
     requires { OpensFor blank L.name L.parts }
 {

@@ -269,7 +269,7 @@ fn reads(alloc: Global, plan: &Plan, stamp: &[u8], body: &[u8]) -> Result<bool, 
     Ok(plan.reads(stamp, &symbols))
 }
 
-/// The same of the plan of a pattern's text.
+/// Whether a reading of the plan of a pattern's text accepts the message.
 fn accepts(alloc: Global, text: &[u8], stamp: &[u8], body: &[u8]) -> Result<bool, Fail> {
     let plan = plan_of(alloc, text)?;
     Ok(reads(alloc, &plan, stamp, body)?)
@@ -394,7 +394,7 @@ fn needs(
     )
 }
 
-/// The same of the plan of a pattern's text.
+/// Whether what the plan of a pattern's text needs is spelled so.
 fn brings(
     alloc: Global,
     text: &[u8],

@@ -31,7 +31,7 @@ fn read_job<'a, D: Disk, N: KeepsTexts + Drop, L: Lent>(
     firm
 }
 
-/// The same of several jobs.
+/// Opens the files of several jobs, reads them, and closes them again.
 fn read_each<'a, D: Disk, N: KeepsTexts + Drop, L: Lent>(
     jobs: Vec<Job<StoredFile<'a, D, N, L>>>,
     opener: &mut FileOpener<'a, D, L>,
@@ -78,7 +78,7 @@ fn read_jobs<'a, D: Disk, N: KeepsTexts + Drop, L: Lent>(
     }
 }
 
-/// The same of an archive whose log types are not cut yet.
+/// Reads the files of an archive whose log types are not cut yet.
 fn read_jobs_of<D: Disk, N: KeepsTexts + Drop>(
     alloc: Global,
     archive: &Archive<N>,

@@ -153,7 +153,7 @@ fn read_lent<'a, D: Disk, N: KeepsTexts + Drop>(
     }
 }
 
-/// The same over a disk that the caller keeps.
+/// Reads a file behind what was read before, over a disk that the caller keeps.
 fn read_file<D: Disk, N: KeepsTexts + Drop>(
     alloc: Global,
     archive: &Archive<N>,
@@ -204,7 +204,7 @@ fn read_files<D: Disk, N: KeepsTexts + Drop>(
     Ok(last)
 }
 
-/// The same of an archive whose log types are not cut yet.
+/// Reads these files of an archive whose log types are not cut yet.
 fn read_opened<D: Disk, N: KeepsTexts + Drop>(
     alloc: Global,
     archive: &Archive<N>,
@@ -385,7 +385,8 @@ fn refuses<D: Disk, N: KeepsTexts + Drop>(
     Ok(firm && out.is_empty() && cause == Some(TextCause::Refused))
 }
 
-/// The same of an archive whose log types are not cut yet.
+/// Whether each read of the first file fails where it is not to be read, with that as the cause. The
+/// log types of the archive are not cut yet.
 fn refuses_opened<D: Disk, N: KeepsTexts + Drop>(
     alloc: Global,
     archive: &Archive<N>,

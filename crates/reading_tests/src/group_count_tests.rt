@@ -56,7 +56,7 @@ fn group_with<L: Ledger, M: Ledger>(
     ))
 }
 
-/// The same, for a caller that counts nothing.
+/// Counts the messages of an archive over a disk of which these calls fail, and lets the counters go.
 fn group_of(
     alloc: Global,
     bytes: &[u8],

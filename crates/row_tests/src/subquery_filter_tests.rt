@@ -26,7 +26,7 @@ pub(crate) enum Case {
     Bits(u32, &'static [u64], &'static [u32], Verdict, bool),
     /// A row's stamp, log type and words: its verdict. A row that is left out is not accepted.
     Number(u8, i64, u32, &'static [u64], Verdict),
-    /// The same of a row without a stamp.
+    /// A log type and words of a row without a stamp: its verdict.
     Plain(u32, &'static [u64], Verdict),
     /// A segment's log types and words: whether it may match.
     MayMatch(&'static [u32], &'static [u32], bool),
@@ -36,7 +36,8 @@ pub(crate) enum Case {
     /// The numbers of the words in which the pattern's only token stands, a row's log type and words: its
     /// verdict.
     Marked(&'static [u32], u32, &'static [u64], Verdict),
-    /// The same where other numbers were marked before, and the log types were asked by them.
+    /// What `Marked` has, where other numbers were marked before and the log types were asked by
+    /// them.
     Again(&'static [u32], u32, &'static [u64], Verdict),
     /// The rows of a page by the patterns and moments of their stamps, the log type and the words of all of
     /// them: their verdicts, by what goes along.
@@ -219,7 +220,7 @@ fn filter_leaves(alloc: Global, filter: &Filter, case: &Case) -> Result<bool, Al
     }
 }
 
-/// The same by the filter of the plan.
+/// Whether a case is as told by the filter of the plan.
 fn filter_holds(
     alloc: Global,
     books: &Books,
@@ -268,7 +269,8 @@ fn marks_hold(
     Ok(filter.verdict(row) == want)
 }
 
-/// The same where no word was marked before: until the log types are asked again each row is tried.
+/// Whether that is the verdict on a row by a filter whose words are marked where none was marked
+/// before. Until the log types are asked again each row is tried.
 fn marks_again(
     alloc: Global,
     books: &Books,

@@ -98,7 +98,7 @@ fn call_over<R: Threads + Wait + Sync>(
     Ok(true)
 }
 
-/// The same over a new shelf.
+/// Calls `run` with these words over a new shelf of the machine's logs.
 fn call_with<R: Threads + Wait + Sync>(
     rt: &R,
     machine: &mut Machine,
@@ -108,7 +108,7 @@ fn call_with<R: Threads + Wait + Sync>(
     call_over(rt, machine, words, &mut logs)
 }
 
-/// The same with words as they stand in a script.
+/// Calls `run` with words as they stand in a script, over a new shelf.
 pub(crate) fn call<R: Threads + Wait + Sync>(
     rt: &R,
     machine: &mut Machine,

@@ -99,7 +99,7 @@ impl Machine {
         number_of(self.numbers.as_slice(), at(values, place))
     }
 
-    /// The same, and another where there is no such value.
+    /// The number that the value at a place stands for, and another where there is no such value.
     pub(crate) fn number_or(&self, values: &[Vec<u8>], place: usize, other: u64) -> u64 {
         if place < values.len() {
             return self.number(values, place);

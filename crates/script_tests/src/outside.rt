@@ -16,7 +16,7 @@ pub(crate) fn disk(alloc: Global, bytes: &[u8], fault: u64) -> Result<MemDisk, A
     disk_within(alloc, bytes, fault, 1 << 16, 1000)
 }
 
-/// The same with room for so many bytes and calls.
+/// A disk with these bytes and room for so many bytes and calls, whose call of this number fails.
 pub(crate) fn disk_within(
     alloc: Global,
     bytes: &[u8],

@@ -134,7 +134,8 @@ fn play_lines<R: Threads + Wait + Sync>(
     }
 }
 
-/// The same of a text, by a machine that played others.
+/// Plays a text by a machine that may have played others: its lines before all tests, and then the
+/// one test.
 fn play_text<R: Threads + Wait + Sync>(
     rt: &R,
     machine: &mut Machine,
@@ -145,7 +146,7 @@ fn play_text<R: Threads + Wait + Sync>(
     play_lines(rt, machine, lines.as_slice(), test)
 }
 
-/// The same of a text behind the names that all scripts have.
+/// Plays a script behind the names that all scripts have.
 fn play_behind_names<R: Threads + Wait + Sync>(
     rt: &R,
     machine: &mut Machine,

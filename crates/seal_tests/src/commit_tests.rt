@@ -160,7 +160,7 @@ fn over_books<'b, R: Wait, A: Ledger, B: Ledger, C: Ledger>(
     (first, second)
 }
 
-/// The same over two empty books.
+/// What two commits of a new store answer, over two empty books.
 fn over_journal<R: Wait, A: Ledger, B: Ledger, C: Ledger>(
     rt: &R,
     alloc: Global,
@@ -258,7 +258,7 @@ fn leaves_some(
     Ok(records(disk.stopped(after, pending)?) == Some(1 + (gates / 4) as u64))
 }
 
-/// The same of each kind of crash.
+/// Whether each kind of crash leaves as many of the records as are to be there.
 fn leaves_each(disk: &MemDisk, before: usize, made: usize) -> Result<bool, AllocError> {
     for &pending in PENDING {
         if !leaves_some(disk, before, made, pending)? {

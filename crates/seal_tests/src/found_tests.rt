@@ -57,7 +57,7 @@ fn over_books<'b>(
     Some((first, finds_all(alloc, &mut store)))
 }
 
-/// The same, with the books.
+/// What two looks at all gates answer, over two empty books that it makes.
 fn over_journal(alloc: Global, disk: &mut QuietDisk) -> Answers {
     let Ok((types_lock, mut types)) = SharedBook::new(alloc, Book::new(alloc, 9), 0) else {
         return None;

@@ -102,7 +102,7 @@ fn looked_twice<'d, 'b, R: Wait, A: Ledger, B: Ledger, C: Ledger>(
     Some((before, looked(rt, alloc, maker, keeper)))
 }
 
-/// The same over two books.
+/// What passes over two books are told before and after another one committed a segment.
 fn over_books<'b, R: Wait, A: Ledger, B: Ledger, C: Ledger>(
     rt: &R,
     alloc: Global,
@@ -128,7 +128,7 @@ fn over_books<'b, R: Wait, A: Ledger, B: Ledger, C: Ledger>(
     looked_twice(rt, alloc, &mut maker, &keeper, of_types, of_words, turns)
 }
 
-/// The same over two empty books.
+/// What passes over two empty books are told before and after another one committed a segment.
 fn over_journal<R: Wait, A: Ledger, B: Ledger, C: Ledger>(
     rt: &R,
     alloc: Global,
