@@ -4,7 +4,7 @@ use Rattle.std.specs.List.{flat_map}
 use Rattle.std.specs.Int.{w64}
 use Rattle.std.specs.Int.RustNames.{FitsSigned}
 use Rattle.std.proofs.Math.Seq.{take-add}
-use Rattle.std.proofs.lemmas.List.{take_at, drop_at, drop-take, take-take, drop-drop, take-append-drop, length-take, length-drop, length-map, map-append}
+use Rattle.std.proofs.lemmas.List.{take_at, drop_at, drop-take, take-take, drop-drop, take-append-drop, length-take, length-drop, length-map, map-append, take_all}
 use Rattle.std.proofs.lemmas.Bool.{cases_lt}
 use Rattle.std.proofs.lemmas.List.Concat.{flat_map-append, flat_map-cons}
 use Rattle.std.proofs.lemmas.List.Elements.{All-nil, All-append, All-map, All-take, All-drop, All-weaker}
@@ -20,7 +20,7 @@ use Rattle.segment_format.specs.Laws.{HoldsPages, page_bytes, piece}
 use Rattle.segment_format.proofs.FixedLemmas.{length-moment_bytes}
 use Rattle.segment_format.proofs.UniqueLemmas.{Tells, column_once, length_column, moments_tell, numbers_tell, same_parts}
 use Rattle.segment_pages.specs.Laws.{LeftAreCounted}
-use Rattle.segment_pages.specs.Paged.{HoldsLeft, HoldsNoneTold, OfRows, Paged, ReadsColumns, columns_size, moments_in, paged, paged_end, part, patterns_in, payload_size, types_in}
+use Rattle.segment_pages.specs.Paged.{AreTypes, AreTypesTold, HoldsLeft, HoldsNoneTold, OfRows, Paged, ReadsColumns, columns_size, moments_in, paged, paged_end, part, patterns_in, payload_size, types_in}
 use Rattle.segment_pages.specs.Reads.{OnlyReadsIn}
 use Rattle.segment_pages.specs.StepsLoaded.{EndsBefore, passing}
 use Rattle.segment_pages.proofs.PageLemmas.{dropped, long_piece, none_left, piece_within, short_told}
@@ -210,6 +210,28 @@ counted_left p bytes rows holds = ⊎_elim
     (λ done. ap (λ (l : List Row). length l) (none_left p bytes rows done holds) ∙ omega (arith, done))
     (cases_lt p.pages.row p.pages.rows)
 
+-- the log types of all rows that are left, read at once: those of a later page stand behind the others
+all_types : (bytes : List ℕ) (p : Paged) (c place : ℕ) (text out : List ℕ) → c ≡ p.pages.rows - p.pages.row → place ≡ p.at + (pieces p.pages).types → text ≡ take (4 * c) (drop place bytes) → text ≡ flat_map four_bytes out → All (λ n. n < 2 ^ 32) out
+    → length out ≡ c → AreTypes bytes p out
+all_types bytes p c place text out whole at told spelled fit long = λ later count rows is holds.
+    let m : ℕ = later.pages.rows - later.pages.row in
+    let there : ℕ = place + 4 * count in
+    let total : c ≡ count + m = omega (arith, whole, is.row, is.rows, is.left) in
+    let size : 4 * c ≡ 4 * count + 4 * m = omega (arith, total) in
+    let front : length (flat_map four_bytes (take count out)) ≡ 4 * count =
+    length_column 4 four_bytes length-four_bytes (take count out) ∙ ap (λ (k : ℕ). 4 * k) (omega (arith, length-take count out, long, total)) in
+    let parts : text ≡ flat_map four_bytes (take count out) ++ flat_map four_bytes (drop count out) =
+    spelled ∙ ap (flat_map four_bytes) (sym (take-append-drop count out)) ∙ flat_map-append four_bytes (take count out) (drop count out) in
+    let own : drop (4 * count) text ≡ flat_map four_bytes (drop count out) =
+    ap (drop (4 * count)) parts ∙ drop_at (flat_map four_bytes (take count out)) (flat_map four_bytes (drop count out)) (4 * count) front in
+    let here : drop (4 * count) text ≡ take (4 * m) (drop there bytes) =
+    ap (drop (4 * count)) (told ∙ ap (λ (k : ℕ). take k (drop place bytes)) size) ∙ drop-take (4 * count) (4 * m) (drop place bytes) ∙ ap (take (4 * m)) (drop-drop (4 * count) place bytes) in
+    let first : drop count out ≡ part 0 m (types_in rows) =
+    types_told (Some bytes) later 0 m (4 * m) there (drop (4 * count) text) (drop count out) (record { left = is.left; within = omega arith }) (omega (arith, at, is.at, is.start, is.rows, is.row)) refl here own
+    (All-drop (λ n. n < 2 ^ 32) count out fit) (omega (arith, length-drop count out, long, total)) rows holds in
+    let counted : length (types_in rows) ≡ m = length-map rows (λ (r : Row). r.log_type) ∙ counted_left later bytes rows holds in
+    sym (first ∙ take_all m (types_in rows) (omega (arith, counted)))
+
 -- behind all rows none are left
 pub end_holds : (p : Paged) (bytes : List ℕ) (rows : List Row) → HoldsLeft p bytes rows → HoldsLeft (paged_end p) bytes []
 end_holds p bytes rows holds = record { payload = holds.payload; stands = holds.stands; sized = holds.sized; left = []; holds = omega arith; are = refl }
@@ -231,6 +253,13 @@ reading_of at passed pages ask p s c view not asks left within =
       asks = asks ∙ sym (ap (λ (q : Paged). pieces q.pages) is);
       part = record { left = subst (λ (q : Paged). q.pages.row < q.pages.rows) (sym is) left; within = within };
     }
+
+-- a reader that asks for its next page, and reads a column of all rows that are left
+pub all_reading : (at : ℕ) (passed : Bool) (pages : Pages) (ask : PageAsk) (p : Paged) (c : ℕ) → paged at (passing passed pages) ≡ p → passed ≡ false → ask ≡ pieces pages → pages.row < pages.rows → c ≡ pages.rows - pages.row
+    → Reading at ask p 0 c × (c ≡ p.pages.rows - p.pages.row)
+all_reading at passed pages ask p c view not asks left count =
+    let whole : c ≡ p.pages.rows - p.pages.row = count ∙ sym (ap (λ (q : Paged). q.pages.rows - q.pages.row) (stands_as at passed pages p view not)) in
+    (reading_of at passed pages ask p 0 c view not asks left (omega (arith, whole)), whole)
 
 short_column : (seen : Option (List ℕ)) (p : Paged) (place k : ℕ) → place + k ≤ p.at + p.pages.start + columns_size p.pages → EndsBefore (place + k) seen → HoldsNoneTold seen p
 short_column seen p place k within short = short_told (place + k) seen p (omega (arith, within)) short
@@ -255,6 +284,12 @@ module _ (at : ℕ) (ask : PageAsk) (p : Paged) (s c : ℕ) (r : Reading at ask 
       let within = types_within p s c (4 * c) (at + ask.types + 4 * s) r.part types_at refl in
       reads_wider (at + ask.types + 4 * s) (4 * c) d e reads (p.at + p.pages.start) (columns_size p.pages) within.0 within.1
 
+  -- of the first of these rows on
+  pub all_reads : (d e : DiskState) → s ≡ 0 → OnlyReadsIn (at + ask.types) (4 * c) d e → ReadsColumns p d e
+  all_reads d e none reads =
+      let here : at + ask.types ≡ at + ask.types + 4 * s = omega (arith, none) in
+      types_reads d e (subst (λ (x : ℕ). OnlyReadsIn x (4 * c) d e) here reads)
+
   pub moments_reads : (d e : DiskState) → OnlyReadsIn (at + ask.moments + 8 * s) (8 * c) d e → ReadsColumns p d e
   moments_reads d e reads =
       let within = moments_within p s c (8 * c) (at + ask.moments + 8 * s) r.part moments_at refl in
@@ -267,6 +302,11 @@ module _ (at : ℕ) (ask : PageAsk) (p : Paged) (s c : ℕ) (r : Reading at ask 
 
   pub types_short : (seen : Option (List ℕ)) → EndsBefore (at + ask.types + 4 * s + 4 * c) seen → HoldsNoneTold seen p
   types_short seen short = short_column seen p (at + ask.types + 4 * s) (4 * c) (types_within p s c (4 * c) (at + ask.types + 4 * s) r.part types_at refl).1 short
+
+  pub all_short : (seen : Option (List ℕ)) → s ≡ 0 → EndsBefore (at + ask.types + 4 * c) seen → HoldsNoneTold seen p
+  all_short seen none short =
+      let here : at + ask.types + 4 * c ≡ at + ask.types + 4 * s + 4 * c = omega (arith, none) in
+      types_short seen (subst (λ (x : ℕ). EndsBefore x seen) here short)
 
   pub moments_short : (seen : Option (List ℕ)) → EndsBefore (at + ask.moments + 8 * s + 8 * c) seen → HoldsNoneTold seen p
   moments_short seen short = short_column seen p (at + ask.moments + 8 * s) (8 * c) (moments_within p s c (8 * c) (at + ask.moments + 8 * s) r.part moments_at refl).1 short
@@ -286,3 +326,9 @@ module _ (at : ℕ) (ask : PageAsk) (p : Paged) (s c : ℕ) (r : Reading at ask 
 
   pub patterns_are : (seen : Option (List ℕ)) (k : ℕ) (out : List ℕ) → k ≡ c → IfSome seen (λ bytes. out ≡ take k (drop (at + ask.patterns + s) bytes)) → OfRows seen p (λ rows. out ≡ part s c (patterns_in rows))
   patterns_are seen k out size told = patterns_told seen p s c k (at + ask.patterns + s) out r.part patterns_at size told
+
+  pub all_types_are : (seen : Option (List ℕ)) (buffer text out : List ℕ) → s ≡ 0 → c ≡ p.pages.rows - p.pages.row → IfSome seen (λ bytes. take (4 * c) buffer ≡ take (4 * c) (drop (at + ask.types) bytes)) → text ≡ take (4 * c) buffer
+      → text ≡ flat_map four_bytes out → All (λ n. n < 2 ^ 32) out → length out ≡ c → AreTypesTold seen p out
+  all_types_are None buffer text out none whole told cut spelled fit long = tt
+  all_types_are (Some bytes) buffer text out none whole told cut spelled fit long =
+      all_types bytes p c (at + ask.types) text out whole (omega (arith, types_at, none)) (cut ∙ told) spelled fit long

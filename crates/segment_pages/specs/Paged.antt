@@ -118,3 +118,24 @@ moments_in rows = map (λ r. r.moment) rows
 
 abbrev pub types_in : List Row → List ℕ
 types_in rows = map (λ r. r.log_type) rows
+
+-- ---- the log types of all rows that are left
+
+-- of the same segment a later page is next, or the same one: so many rows come before it
+pub record IsLater (p later : Paged) (count : ℕ) : Type 0 where
+  pub at : later.at ≡ p.at
+  pub start : later.pages.start ≡ p.pages.start
+  pub rows : later.pages.rows ≡ p.pages.rows
+  pub row : later.pages.row ≡ p.pages.row + count
+  pub left : later.pages.row < later.pages.rows
+
+-- whatever rows the bytes hold from there on, their log types are those behind so many of these
+abbrev pub AreTypes : List ℕ → Paged → List ℕ → Type 0
+AreTypes bytes p types =
+    (later : Paged) (count : ℕ) (rows : List Row) → IsLater p later count → HoldsLeft later bytes rows
+    → types_in rows ≡ drop count types
+
+-- the same of the bytes of a disk, where they are told
+abbrev pub AreTypesTold : Option (List ℕ) → Paged → List ℕ → Type 0
+AreTypesTold None p types = Unit {0}
+AreTypesTold (Some bytes) p types = AreTypes bytes p types

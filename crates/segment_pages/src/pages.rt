@@ -3,7 +3,7 @@ ghost use Rattle.std.specs.Prelude.{◌≡◌, ◌≤◌, ◌<◌, ◌+◌, ◌-
 ghost use Rattle.log_seams.specs.Outside.{CountsOf};
 ghost use Rattle.column_store.specs.declared.row.Row.{Row};
 ghost use Rattle.segment_format.specs.Pages.{page_rows};
-ghost use Rattle.segment_pages.specs.Paged.{AreBehindTold, AreNextTold, HoldsLeft, HoldsNoneTold, HoldsSegment, OfRows, ReadsColumns, moments_in, paged_after, paged_end, paged_first, paged_passed, part, patterns_in, types_in};
+ghost use Rattle.segment_pages.specs.Paged.{AreBehindTold, AreNextTold, AreTypesTold, HoldsLeft, HoldsNoneTold, HoldsSegment, OfRows, ReadsColumns, moments_in, paged_after, paged_end, paged_first, paged_passed, part, patterns_in, types_in};
 
 use crate::columns::{ask_of, fill_moments, fill_numbers, read_part, rows_behind};
 use crate::heads::is_head;
@@ -242,7 +242,49 @@ impl SegmentPages {
         Ok(())
     }
 
-    /// The same of their moments.
+    /// Reads the log types of all rows that are left, by one read. They serve for later pages of the
+    /// segment too: the rows from such a page on have those behind the rows before it. The buffer holds
+    /// their bytes meanwhile.
+    ///
+    /// # Errors
+    ///
+    /// Those of `next_page`.
+    pub fn read_all_types<D: Disk>(
+        &self,
+        disk: &mut D,
+        buffer: &mut Vec<u8>,
+        types: &mut Vec<u32>,
+    ) -> Result<(), PageRefusal>
+        requires { self.now.pages.row < self.now.pages.rows }
+
+        // what stays
+        ensures reads { ReadsColumns self.now (D.state disk.old) (D.state disk.new) }
+
+        // by the answer
+        ensures types { OnOk result
+            (AreTypesTold (D.state disk.old).seen self.now types.new.items) }
+        ensures length { OnOk result
+            (length types.new.items ≡ self.now.pages.rows - self.now.pages.row) }
+
+        // causes
+        ensures damaged { IsErrOf result PageRefusal.Damaged
+            → HoldsNoneTold (D.state disk.old).seen self.now }
+        ensures counts { CountsOf PageRefusal.DiskFault
+            (D.state disk.old).faults (D.state disk.new).faults result }
+    {
+        let Some(ask) = ask_of(self.passed, &self.pages) else {
+            unreachable!();
+        };
+        let rows = rows_behind(&ask, &self.pages);
+        let size = 4 * rows as usize;
+        read_part(disk, self.at + ask.types, size, buffer)?;
+        let (bytes, _) = buffer.as_slice().split_at(size);
+        fill_numbers(types, bytes)?;
+        Ok(())
+    }
+
+    /// Reads the moments of so many of the rows that are left, behind the first ones, by one read. The
+    /// buffer holds their bytes meanwhile.
     ///
     /// # Errors
     ///
@@ -287,7 +329,8 @@ impl SegmentPages {
         Ok(())
     }
 
-    /// The same of the patterns of their stamps.
+    /// Reads the patterns of the stamps of so many of the rows that are left, behind the first ones, by
+    /// one read. The buffer holds their bytes meanwhile.
     ///
     /// # Errors
     ///
