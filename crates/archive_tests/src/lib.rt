@@ -4,8 +4,6 @@
 #[cfg(test)]
 mod archive_check_tests;
 #[cfg(test)]
-mod archive_decode_tests;
-#[cfg(test)]
 mod archive_machine_tests;
 #[cfg(test)]
 mod archive_merge_tests;

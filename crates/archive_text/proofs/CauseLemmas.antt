@@ -1,10 +1,11 @@
 -- Causes, and the disk's count of faults.
-use Rattle.std.proofs.Common.{◌≡◌, refl, ap, subst, ◌∙◌, ◌≤◌, ℕ, List, Option, None, Some, drop, false, arith}
+use Rattle.std.proofs.Common.{◌≡◌, refl, sym, ap, subst, ◌∙◌, ◌≤◌, ℕ, List, Option, None, Some, drop, false, arith}
 use Rattle.std.specs.Prelude.{◌≢◌, IfSome, is_some, option_map}
 use Rattle.log_seams.specs.Outside.{Rose}
+use Rattle.segment_pages.specs.declared.refusal.PageRefusal.{PageRefusal}
 use Rattle.archive_open.specs.Shown.{StandsForNone}
 use Rattle.archive_text.specs.declared.cause.TextCause.{TextCause}
-use Rattle.archive_text.specs.Caused.{CountsBy}
+use Rattle.archive_text.specs.Caused.{CountsBy, from_page}
 
 -- no cause
 pub counts_none : (before now : ℕ) → now ≡ before → CountsBy before now None
@@ -20,7 +21,7 @@ pub counts_kept : (before mid now : ℕ) → CountsBy before mid None → now �
 counts_kept before mid now counts same = counts_none before now (same ∙ counts.spared (λ e. absurd (cc e)))
 
 -- a call that was refused
-pub counts_refused : (before mid now : ℕ) (cause : TextCause) → CountsBy before mid None → mid ≤ now → (cause ≡ TextCause.DiskFault → Rose mid now) → (cause ≢ TextCause.DiskFault → now ≡ mid) → CountsBy before now (Some cause)
+counts_refused : (before mid now : ℕ) (cause : TextCause) → CountsBy before mid None → mid ≤ now → (cause ≡ TextCause.DiskFault → Rose mid now) → (cause ≢ TextCause.DiskFault → now ≡ mid) → CountsBy before now (Some cause)
 counts_refused before mid now cause counts later failed spared =
     let same : mid ≡ before = counts.spared (λ e. absurd (cc e)) in
     record {
@@ -28,6 +29,22 @@ counts_refused before mid now cause counts later failed spared =
       failed = λ e. let fault : cause ≡ TextCause.DiskFault = cc e in subst (λ n. Rose n now) same (failed fault);
       spared = λ other. spared (λ fault. other (ap (λ c. Some c) fault)) ∙ same;
     }
+
+-- of a page that was refused
+fault_is : (r : PageRefusal) → from_page r ≡ TextCause.DiskFault → r ≡ PageRefusal.DiskFault
+fault_is PageRefusal.DiskFault e = refl
+fault_is PageRefusal.Damaged e = absurd (cc e)
+fault_is PageRefusal.OutOfMemory e = absurd (cc e)
+
+pub damage_is : (r : PageRefusal) (cause : TextCause) → cause ≡ from_page r → cause ≡ TextCause.Damaged → r ≡ PageRefusal.Damaged
+damage_is PageRefusal.DiskFault cause is e = absurd (cc (is, e))
+damage_is PageRefusal.Damaged cause is e = refl
+damage_is PageRefusal.OutOfMemory cause is e = absurd (cc (is, e))
+
+pub counts_page : (before mid now : ℕ) (r : PageRefusal) (cause : TextCause) → cause ≡ from_page r → CountsBy before mid None → mid ≤ now → (r ≡ PageRefusal.DiskFault → Rose mid now) → (r ≢ PageRefusal.DiskFault → now ≡ mid)
+    → CountsBy before now (Some cause)
+counts_page before mid now r cause is counts later failed spared =
+    counts_refused before mid now cause counts later (λ e. failed (fault_is r (sym is ∙ e))) (λ other. spared (λ e. other (is ∙ ap from_page e)))
 
 pub no_cause : (cause : Option TextCause) → is_some cause ≡ false → cause ≡ None
 no_cause None none = refl

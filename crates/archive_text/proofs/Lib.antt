@@ -5,6 +5,7 @@ pub mod DecideStamp
 pub mod DecideText
 pub mod HeldLemmas
 pub mod PlacesLemmas
+pub mod SentLemmas
 pub mod StartLemmas
 pub mod WayLemmas
 pub mod WritingLemmas

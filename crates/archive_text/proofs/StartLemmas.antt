@@ -14,11 +14,13 @@ use Rattle.archive_meaning.specs.Stands.{StandsFor}
 use Rattle.archive_open.specs.declared.files.FileEntry.{FileEntry}
 use Rattle.archive_open.specs.declared.segments.SegmentPlace.{SegmentPlace}
 use Rattle.archive_open.specs.Shown.{IsArchiveOf, Opens, Shown, StandsForNone}
+use Rattle.sink_pieces.specs.Output.{Took}
 use Rattle.archive_open.specs.OfFile.{is_of}
 use Rattle.archive_text.specs.Meant.{AreMeant, HoldAll}
 use Rattle.archive_text.proofs.HeldLemmas.{entry_of, file_held, file_messages}
 use Rattle.archive_text.specs.declared.walk.Walk.{Walk}
-use Rattle.archive_text.specs.Ahead.{PagesHold, ahead, text_behind}
+use Rattle.archive_text.specs.Ahead.{IsAhead, PagesHold, ahead, text_behind}
+use Rattle.archive_text.specs.Decoded.{Decodes}
 use Rattle.archive_text.specs.OneText.{one_text}
 use Rattle.archive_text.specs.Told.{AreWritten, FileParts, HoldAllWritten, IsText, Tells, TellsFile}
 use Rattle.archive_text.specs.Way.{IsOnWay, yet}
@@ -89,6 +91,17 @@ module _ (a : Shown) (number : ℕ) (f : FileParts) (entry : FileEntry) (is : Is
   untold (Some bytes) None opened t none = λ h es stood. t bytes _ refl (journal_text bytes h es stood (opened h es stood))
   untold (Some bytes) (Some text) opened t none = absurd (cc none)
 
+  -- of what a sink took of each text, and where there is none
+  pub decodes : (done : Bool) (seen old new : Option (List ℕ)) → Opens seen a → ((bytes text : List ℕ) → seen ≡ Some bytes → IsText f bytes text → Took done old new text) → Decodes done number seen old new
+  decodes done None old new opened took = tt
+  decodes done (Some bytes) old new opened took = λ h es stood file e.
+      let archive = opened h es stood in
+      subst (λ t. Took done old new t) (journal_file bytes h es stood archive file e) (took bytes _ refl (journal_text bytes h es stood archive))
+
+  pub no_text : (seen : Option (List ℕ)) → Opens seen a → ((bytes text : List ℕ) → seen ≡ Some bytes → ¬ IsText f bytes text) → IfSome seen StandsForNone
+  no_text None opened none = tt
+  no_text (Some bytes) opened none = λ h es stood. none bytes _ refl (journal_text bytes h es stood (opened h es stood))
+
 -- before the first segment
 pub record IsStart (f : FileParts) (w : Walk) : Type 0 where
   pub rows : w.columns.rows ≡ []
@@ -103,23 +116,27 @@ pub record IsStart (f : FileParts) (w : Walk) : Type 0 where
 drop_none : {A : Type 0} (n : ℕ) → ◌≡◌ {A = List A} (drop n []) []
 drop_none n = drop_all n [] (omega arith)
 
+pub start_ahead : (f : FileParts) (w : Walk) (bytes text : List ℕ) → IsStart f w → (is : IsText f bytes text) → IsAhead f.types f.words (ahead w) bytes is.messages
+start_ahead f w bytes text start is =
+    let none : drop w.row w.columns.rows ≡ [] = ap (λ (l : List Row). drop w.row l) start.rows ∙ drop_none w.row in
+    record {
+      page = [];
+      pages = [];
+      others = is.messages;
+      are = refl;
+      in_page = subst (λ rs. AreWritten f.types f.words rs []) (sym none) tt;
+      in_pages = subst (λ ps. PagesHold f.types f.words ps bytes []) (sym start.pages) refl;
+      in_places = subst (λ ps. HoldAllWritten f.types f.words ps bytes is.messages) (sym start.places) is.hold;
+    }
+
 pub start_way : (f : FileParts) (w : Walk) (bytes text : List ℕ) → IsStart f w → IsText f bytes text → IsOnWay f.types f.words f.open_end bytes w text
 start_way f w bytes text start is =
-    let none : drop w.row w.columns.rows ≡ [] = ap (λ (l : List Row). drop w.row l) start.rows ∙ drop_none w.row in
     let whole : drop w.lines.given text ≡ text = ap (λ n. drop n text) start.given in
     let empty : drop w.lines.sent w.lines.gathered.items ≡ [] = ap (λ (l : List ℕ). drop w.lines.sent l) start.nothing ∙ drop_none w.lines.sent in
     let rest : yet w.ended f.open_end w.lines.begun is.messages ≡ text_behind f.open_end false is.messages = ap₂ (λ (e b : Bool). yet e f.open_end b is.messages) start.ended start.begun in
     record {
       messages = is.messages;
-      ahead = record {
-        page = [];
-        pages = [];
-        others = is.messages;
-        are = refl;
-        in_page = subst (λ rs. AreWritten f.types f.words rs []) (sym none) tt;
-        in_pages = subst (λ ps. PagesHold f.types f.words ps bytes []) (sym start.pages) refl;
-        in_places = subst (λ ps. HoldAllWritten f.types f.words ps bytes is.messages) (sym start.places) is.hold;
-      };
+      ahead = start_ahead f w bytes text start is;
       is = whole ∙ (is.is ∙ (text_first f.open_end is.messages ∙ sym (ap₂ (λ (l r : List ℕ). l ++ r) empty rest)));
     }
 

@@ -1,19 +1,16 @@
 -- Rows, pages and segments that are written out, and the text that is yet to be.
-use Rattle.std.proofs.Common.{◌≡◌, refl, sym, ap, ap₂, subst, ◌∙◌, ◌+◌, ◌≤◌, ℕ, zero, suc, Bool, true, false, List, [], ◌∷◌, ◌++◌, Option, None, Some, length, drop, append_assoc, Result, Err, arith}
+use Rattle.std.proofs.Common.{◌≡◌, refl, sym, ap, ap₂, subst, ◌∙◌, ◌+◌, ◌≤◌, ℕ, zero, suc, Bool, true, false, List, [], ◌∷◌, ◌++◌, Option, None, Some, length, drop, append_assoc, arith}
 use Rattle.std.specs.Prelude.{slice_get}
 use Rattle.std.proofs.lemmas.List.{append-nil, drop_all}
 use Rattle.column_store.specs.declared.row.Row.{Row}
 use Rattle.row_codec.specs.Means.{HasSpelling, IsSpelling}
 use Rattle.row_codec.proofs.MeansLemmas.{one_spelling}
-use Rattle.segment_pages.specs.declared.refusal.PageRefusal.{PageRefusal}
 use Rattle.segment_pages.specs.Paged.{AreNextTold, HoldsLeft, HoldsNoneTold, HoldsSegment, Paged}
 use Rattle.segment_pages.proofs.PageLemmas.{none_left}
 use Rattle.archive_meaning.specs.Held.{text_from}
 use Rattle.archive_open.specs.declared.segments.SegmentPlace.{SegmentPlace}
 use Rattle.archive_text.specs.Newlines.{behind}
-use Rattle.archive_text.specs.declared.cause.TextCause.{TextCause}
 use Rattle.archive_text.specs.declared.lines.Lines.{Lines}
-use Rattle.archive_text.specs.Caused.{from_page}
 use Rattle.archive_text.specs.Ahead.{Ahead, Goes, HasNoPage, IsAhead, IsPast, PagesHold, SameText, WritesRows, text_behind}
 use Rattle.archive_text.specs.Told.{AreWritten, HoldAllWritten, HoldsWritten}
 
@@ -194,10 +191,3 @@ module _ (types words : List (List ℕ)) where
         let hold : HoldAllWritten types words (place ∷ places) bytes is.others = subst (λ ps. HoldAllWritten types words ps bytes is.others) at is.in_places in
         let here : HoldsWritten types words place bytes hold.0 = hold.3 in
         none bytes here.rows here.holds
-
--- ---- causes
-
-pub page_damaged : {T : Type 0} (refusal : PageRefusal) (r : TextCause) (x : Result T TextCause) → r ≡ from_page refusal → x ≡ Err r → x ≡ Err TextCause.Damaged → refusal ≡ PageRefusal.Damaged
-page_damaged PageRefusal.DiskFault r x e is was = absurd cc
-page_damaged PageRefusal.Damaged r x e is was = refl
-page_damaged PageRefusal.OutOfMemory r x e is was = absurd cc

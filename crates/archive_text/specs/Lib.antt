@@ -1,10 +1,12 @@
 pub mod Ahead
 pub mod Caused
+pub mod Decoded
 pub mod Kept
 pub mod Laws
 pub mod Meant
 pub mod Newlines
 pub mod OneText
+pub mod Sent
 pub mod State
 pub mod Told
 pub mod Way

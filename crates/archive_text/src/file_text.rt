@@ -221,8 +221,8 @@ impl<'a, D: Disk, N: Names> FileText<'a, D, N> {
             buf,
         ) {
             Ok(count) => Ok(count),
-            Err(cause) => {
-                self.cause = Some(cause);
+            Err(refusal) => {
+                self.cause = Some(TextCause::from(refusal));
                 self.faults = self.faults.saturating_add(1);
                 Err(Failed)
             }

@@ -4,10 +4,10 @@ ghost use Rattle.log_seams.specs.Disk.{Rests};
 ghost use Rattle.log_seams.specs.Outside.{CountsOf};
 ghost use Rattle.archive_text.specs.Way.{GivesTold, NotOnWay, OnWayTold};
 
-use crate::cause::TextCause;
 use crate::walk::{Walk, gather};
 use log_seams::Disk;
 use row_codec::{Layouts, Names};
+use segment_pages::PageRefusal;
 
 // Writes out what comes next, where all that was written out was given.
 fn fill<N: Names, D: Disk>(
@@ -16,7 +16,7 @@ fn fill<N: Names, D: Disk>(
     open_end: bool,
     disk: &mut D,
     walk: &mut Walk<'_>,
-) -> Result<(), TextCause>
+) -> Result<(), PageRefusal>
     requires types { layouts.now ≡ N.types names.now }
     requires within { walk.old.lines.sent ≤ length walk.old.lines.gathered.items }
 
@@ -33,10 +33,10 @@ fn fill<N: Names, D: Disk>(
         ⊎ IsTrue walk.new.ended) }
 
     // causes
-    ensures damaged { IsErrOf result TextCause.Damaged
+    ensures damaged { IsErrOf result PageRefusal.Damaged
         → NotOnWay (D.state disk.old).seen (N.types names.now) (N.words names.now) open_end
         walk.old }
-    ensures disk { CountsOf TextCause.DiskFault
+    ensures disk { CountsOf PageRefusal.DiskFault
         (D.state disk.old).faults (D.state disk.new).faults result }
 {
     if walk.ended || !walk.lines.is_spent() {
@@ -59,7 +59,7 @@ pub(crate) fn give_next<N: Names, D: Disk>(
     disk: &mut D,
     walk: &mut Walk<'_>,
     buf: &mut [u8],
-) -> Result<usize, TextCause>
+) -> Result<usize, PageRefusal>
     requires types { layouts.now ≡ N.types names.now }
     requires within { walk.old.lines.sent ≤ length walk.old.lines.gathered.items }
     requires room { 0 < length buf.old }
@@ -79,10 +79,10 @@ pub(crate) fn give_next<N: Names, D: Disk>(
     ensures room { IfOk result (λ n. n ≤ length buf.old) }
 
     // causes
-    ensures damaged { IsErrOf result TextCause.Damaged
+    ensures damaged { IsErrOf result PageRefusal.Damaged
         → NotOnWay (D.state disk.old).seen (N.types names.now) (N.words names.now) open_end
         walk.old }
-    ensures disk { CountsOf TextCause.DiskFault
+    ensures disk { CountsOf PageRefusal.DiskFault
         (D.state disk.old).faults (D.state disk.new).faults result }
 {
     fill(names, layouts, open_end, disk, walk)?;

@@ -7,14 +7,14 @@ ghost use Rattle.segment_pages.specs.Paged.{HoldsLeft, HoldsSegment, paged_first
 ghost use Rattle.step_count.specs.Opens.{OpensFor};
 ghost use Rattle.archive_text.specs.Ahead.{GoesTold, Goes, HasNoPage, HasPage, IsAhead, IsPast, NotAhead, ahead, work};
 
-use crate::cause::TextCause;
 use crate::lines::Lines;
-use crate::page::{PIECE, write_page};
+use crate::page::write_page;
 use archive_open::SegmentPlace;
 use column_store::Columns;
 use log_seams::Disk;
 use row_codec::{Layouts, Names};
-use segment_pages::SegmentPages;
+use segment_pages::{PageRefusal, SegmentPages};
+use sink_pieces::PIECE;
 use std::alloc::Global;
 use std::marker::Brand;
 use std::mem;
@@ -144,7 +144,7 @@ fn has_page(pages: &Option<SegmentPages>) -> bool
 }
 
 // Loads the next page of the segment in hand, once all rows of the page before are written.
-fn load_page<D: Disk>(disk: &mut D, walk: &mut Walk<'_>) -> Result<(), TextCause>
+fn load_page<D: Disk>(disk: &mut D, walk: &mut Walk<'_>) -> Result<(), PageRefusal>
     requires done { length walk.old.columns.rows ≤ walk.old.row }
     requires more { HasPage walk.old.pages }
 
@@ -160,9 +160,9 @@ fn load_page<D: Disk>(disk: &mut D, walk: &mut Walk<'_>) -> Result<(), TextCause
     ensures smaller { OnOk result (work (ahead walk.new) < work (ahead walk.old)) }
 
     // causes
-    ensures damaged { IsErrOf result TextCause.Damaged → (types words : List (List ℕ))
+    ensures damaged { IsErrOf result PageRefusal.Damaged → (types words : List (List ℕ))
         → NotAhead (D.state disk.old).seen types words (ahead walk.old) }
-    ensures disk { CountsOf TextCause.DiskFault
+    ensures disk { CountsOf PageRefusal.DiskFault
         (D.state disk.old).faults (D.state disk.new).faults result }
 {
     let Some(mut pages) = walk.pages.take() else {
@@ -177,7 +177,7 @@ fn load_page<D: Disk>(disk: &mut D, walk: &mut Walk<'_>) -> Result<(), TextCause
 
 // Opens the next segment, once all pages of the one before are written, and tells whether there is
 // one.
-fn open_next(walk: &mut Walk<'_>) -> Result<bool, TextCause>
+fn open_next(walk: &mut Walk<'_>) -> Result<bool, PageRefusal>
     requires done { length walk.old.columns.rows ≤ walk.old.row }
     requires none { HasNoPage walk.old.pages }
 
@@ -194,26 +194,26 @@ fn open_next(walk: &mut Walk<'_>) -> Result<bool, TextCause>
     ensures past { IfOk result (λ more. IsFalse more → IsPast (ahead walk.new)) }
 
     // causes
-    ensures damaged { IsErrOf result TextCause.Damaged
+    ensures damaged { IsErrOf result PageRefusal.Damaged
         → (types words messages : List (List ℕ)) (bytes : List ℕ)
         → ¬ IsAhead types words (ahead walk.old) bytes messages }
-    ensures disk { ¬ IsErrOf result TextCause.DiskFault }
+    ensures disk { ¬ IsErrOf result PageRefusal.DiskFault }
 {
     let places = walk.places;
     let Some((place, rest)) = places.split_first() else {
         return Ok(false);
     };
     let Some(pages) = pages_of(place) else {
-        return Err(TextCause::Damaged);
+        return Err(PageRefusal::Damaged);
     };
     walk.pages = Some(pages);
     walk.places = rest;
     Ok(true)
 }
 
-// Goes on to the next page, or else to the next segment, once all rows of the page before are
-// written. Tells whether there is one.
-fn advance<D: Disk>(disk: &mut D, walk: &mut Walk<'_>) -> Result<bool, TextCause>
+/// Goes on to the next page, or else to the next segment, once all rows of the page before are
+/// written. Tells whether there is one.
+pub(crate) fn advance<D: Disk>(disk: &mut D, walk: &mut Walk<'_>) -> Result<bool, PageRefusal>
     requires done { length walk.old.columns.rows ≤ walk.old.row }
 
     // what stays
@@ -230,9 +230,9 @@ fn advance<D: Disk>(disk: &mut D, walk: &mut Walk<'_>) -> Result<bool, TextCause
     ensures past { IfOk result (λ more. IsFalse more → IsPast (ahead walk.new)) }
 
     // causes
-    ensures damaged { IsErrOf result TextCause.Damaged → (types words : List (List ℕ))
+    ensures damaged { IsErrOf result PageRefusal.Damaged → (types words : List (List ℕ))
         → NotAhead (D.state disk.old).seen types words (ahead walk.old) }
-    ensures disk { CountsOf TextCause.DiskFault
+    ensures disk { CountsOf PageRefusal.DiskFault
         (D.state disk.old).faults (D.state disk.new).faults result }
 {
     if has_page(&walk.pages) {
@@ -242,14 +242,19 @@ fn advance<D: Disk>(disk: &mut D, walk: &mut Walk<'_>) -> Result<bool, TextCause
     open_next(walk)
 }
 
-// Writes the rows of the page in hand out, until there is enough to be given.
-fn write_rows<N: Names>(names: &N, layouts: &Layouts, walk: &mut Walk<'_>) -> Result<(), TextCause>
+/// Writes the rows of the page in hand out, until there is enough for a piece.
+pub(crate) fn write_rows<N: Names>(
+    names: &N,
+    layouts: &Layouts,
+    walk: &mut Walk<'_>,
+) -> Result<(), PageRefusal>
     requires types { layouts.now ≡ N.types names.now }
 
     // what stays
     ensures sent { walk.new.lines.sent ≡ walk.old.lines.sent }
     ensures given { walk.new.lines.given ≡ walk.old.lines.given }
     ensures ended { walk.new.ended ≡ walk.old.ended }
+    ensures columns { walk.new.columns ≡ walk.old.columns }
     ensures work { OnOk result (work (ahead walk.new) ≡ work (ahead walk.old)) }
 
     // by the answer
@@ -258,12 +263,14 @@ fn write_rows<N: Names>(names: &N, layouts: &Layouts, walk: &mut Walk<'_>) -> Re
         walk.old.lines walk.new.lines) }
     ensures enough { OnOk result ((length walk.new.columns.rows ≤ walk.new.row)
         ⊎ (PIECE ≤ length walk.new.lines.gathered.items)) }
+    ensures further { OnOk result (walk.old.row < length walk.old.columns.rows
+        → walk.old.row < walk.new.row) }
 
     // causes
-    ensures damaged { IsErrOf result TextCause.Damaged
+    ensures damaged { IsErrOf result PageRefusal.Damaged
         → (bytes : List ℕ) (messages : List (List ℕ))
         → ¬ IsAhead (N.types names.now) (N.words names.now) (ahead walk.old) bytes messages }
-    ensures disk { ¬ IsErrOf result TextCause.DiskFault }
+    ensures disk { ¬ IsErrOf result PageRefusal.DiskFault }
 {
     walk.row = write_page(&walk.columns, walk.row, names, layouts, &mut walk.lines)?;
     Ok(())
@@ -276,7 +283,7 @@ pub(crate) fn gather<N: Names, D: Disk>(
     layouts: &Layouts,
     disk: &mut D,
     walk: &mut Walk<'_>,
-) -> Result<bool, TextCause>
+) -> Result<bool, PageRefusal>
     requires types { layouts.now ≡ N.types names.now }
 
     // what stays
@@ -293,10 +300,10 @@ pub(crate) fn gather<N: Names, D: Disk>(
         → PIECE ≤ length walk.new.lines.gathered.items) }
 
     // causes
-    ensures damaged { IsErrOf result TextCause.Damaged
+    ensures damaged { IsErrOf result PageRefusal.Damaged
         → NotAhead (D.state disk.old).seen (N.types names.now) (N.words names.now)
         (ahead walk.old) }
-    ensures disk { CountsOf TextCause.DiskFault
+    ensures disk { CountsOf PageRefusal.DiskFault
         (D.state disk.old).faults (D.state disk.new).faults result }
 {
     write_rows(names, layouts, walk)?;

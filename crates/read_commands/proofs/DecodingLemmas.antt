@@ -5,8 +5,8 @@ use Rattle.std.proofs.lemmas.List.{length-map}
 use Rattle.archive_meaning.specs.Held.{content_of}
 use Rattle.archive_open.specs.Shown.{HasLastGate, Opens, RefusedAt, Shown, StandsForNone, counted}
 use Rattle.archive_open.proofs.OpenLemmas.{refused_at_last}
-use Rattle.archive_decode.specs.Decoded.{Decodes}
-use Rattle.archive_decode.specs.declared.refusal.DecodeRefusal.{DecodeRefusal}
+use Rattle.archive_text.specs.Decoded.{Decodes}
+use Rattle.archive_text.specs.declared.refusal.DecodeRefusal.{DecodeRefusal}
 use Rattle.command_answers.specs.Decoding.{LacksFile, PrintsFile}
 use Rattle.read_commands.specs.Decoding.{from_decode}
 use Rattle.command_refusals.specs.Reading.{OverJournal}

@@ -1,6 +1,6 @@
 -- Why the bytes of a file are not printed where decoding was refused.
 use Rattle.std.specs.Prelude.{ℕ}
-use Rattle.archive_decode.specs.declared.refusal.DecodeRefusal.{DecodeRefusal}
+use Rattle.archive_text.specs.declared.refusal.DecodeRefusal.{DecodeRefusal}
 use Rattle.command_refusals.specs.declared.outcome.FileRefusal.{FileRefusal}
 
 -- in an archive that is told as damaged at this place

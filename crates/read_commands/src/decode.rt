@@ -8,7 +8,7 @@ ghost use Rattle.command_answers.specs.Decoding.{LacksFile, PrintsFile};
 ghost use Rattle.command_refusals.specs.Reading.{OverJournal};
 ghost use Rattle.read_commands.specs.Decoding.{from_decode};
 
-use archive_decode::{DecodeRefusal, decode};
+use archive_text::{DecodeRefusal, decode};
 use archive_open::{Archive, PlainBooks, open_archive};
 use command_refusals::FileRefusal;
 use log_seams::{Disk, Sink};

@@ -20,6 +20,11 @@ loop-place-preserved g c =
       given = c.in_ok-push.ensures.given ∙ c.loop-place.invariant.given;
     }
 
+pub returns-then-len-ge-PIECE-clause-written : goal.returns-then-len-ge-PIECE-clause-written
+returns-then-len-ge-PIECE-clause-written g c =
+    let done = c.in_ok-push.ensures.ok (search rules) in
+    rows_more _ _ _ c.args.columns.now.rows c.loop-place.place _ c.args.lines.now c.loop-place.lines c.push.new.self done.0 c.row-row.ensures done.1 (sym done.2) (c.in_ok-push.ensures.begun (search rules)) c.loop-place.invariant.written
+
 pub returns-then-not-branch-clause-damaged : goal.returns-then-not-branch-clause-damaged
 returns-then-not-branch-clause-damaged g c = λ is messages all.
     rows_not _ _ _ c.args.columns.now.rows c.loop-place.place _ c.args.lines.now c.loop-place.lines messages c.row-row.ensures (c.in_ok-push.ensures.misfit (search rules)) c.loop-place.invariant.written all

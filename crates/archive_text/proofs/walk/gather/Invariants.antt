@@ -1,6 +1,6 @@
 use Rattle.std.proofs.Common.{◌≡◌, ◌≤◌, ◌⊎◌, length}
 use Rattle.log_seams.specs.Disk.{Rests}
-use Rattle.archive_text.specs.declared.page.TheConstants.{PIECE}
+use Rattle.sink_pieces.specs.declared.pieces.TheConstants.{PIECE}
 use Rattle.archive_text.specs.Ahead.{GoesTold, ahead, work}
 use Rattle.archive_text.proofs.walk.gather.Given as goal
 

@@ -5,7 +5,7 @@ use Rattle.log_seams.proofs.MomentLemmas.{rests_on}
 use Rattle.archive_text.specs.declared.cause.TextCause.{TextCause}
 use Rattle.archive_text.specs.Caused.{CountsBy}
 use Rattle.archive_text.specs.State.{TextState}
-use Rattle.archive_text.proofs.CauseLemmas.{counts_refused, damaged_told, no_cause}
+use Rattle.archive_text.proofs.CauseLemmas.{counts_page, damage_is, damaged_told, no_cause}
 use Rattle.archive_text.proofs.WayLemmas.{takes_text}
 use Rattle.archive_text.proofs.file_text.FileText.give.Goals as goal
 
@@ -19,15 +19,16 @@ invariant_of-self-in-Err g c =
       layouts = c.self.invariant.layouts;
       same = c.self.invariant.same;
       rests = rests_on _ _ _ c.self.invariant.rests c.in-Err.ensures.rests;
-      counts = counts_refused before mid (g.D.Disk.state c.give_next.new.disk).faults c.in-Err.cause (subst (λ o. CountsBy before mid o) running c.self.invariant.counts)
-          c.in-Err.ensures.disk.later (λ fault. c.in-Err.ensures.disk.failed (search (rules, fault))) (λ other. c.in-Err.ensures.disk.spared c.in-Err.cause (search rules) other);
+      counts = counts_page before mid (g.D.Disk.state c.give_next.new.disk).faults c.in-Err.refusal c.from.result c.from.ensures (subst (λ o. CountsBy before mid o) running c.self.invariant.counts)
+          c.in-Err.ensures.disk.later (λ fault. c.in-Err.ensures.disk.failed (search (rules, fault))) (λ other. c.in-Err.ensures.disk.spared c.in-Err.refusal (search rules) other);
       untold = c.self.invariant.untold;
       damaged = λ e.
-          let fault : c.in-Err.cause ≡ TextCause.Damaged = cc e in
+          let fault : c.from.result ≡ TextCause.Damaged = cc e in
+          let why = damage_is c.in-Err.refusal c.from.result c.from.ensures fault in
           damaged_told inside.told.has.0 (g.D.Disk.state inside.opened.value).seen c.self.invariant.untold
           (λ text was.
           let t = (c.self.invariant.going running).text text was in
-          c.in-Err.ensures.damaged (search (rules, fault)) t.0 text (c.self.invariant.rests.seen ∙ t.1) t.2);
+          c.in-Err.ensures.damaged (search (rules, why)) t.0 text (c.self.invariant.rests.seen ∙ t.1) t.2);
       going = λ e. absurd (cc e);
     }
 

@@ -1,6 +1,6 @@
-//! The files of small archives.
-use archive_decode::{DecodeRefusal, decode};
+//! The files of small archives, written into a sink.
 use archive_open::{PlainBooks, open_archive};
+use archive_text::{DecodeRefusal, decode};
 use log_seams::{MemDisk, MemSink};
 use plain_list::Text;
 use std::alloc::{AllocError, Global};

@@ -1,4 +1,0 @@
-pub mod FileLemmas
-pub mod LinesLemmas
-pub mod PageLemmas
-pub mod SegmentLemmas
