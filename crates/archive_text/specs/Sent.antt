@@ -14,7 +14,8 @@ of_page PageRefusal.OutOfMemory = DecodeRefusal.OutOfMemory
 
 -- the text is what the sink took since it had `start`, what is written out and not sent, and what the messages that are ahead
 -- will be
-pub record IsSent (types words : List (List ℕ)) (open_end : Bool) (bytes : List ℕ) (start now : Option (List ℕ)) (w : Walk) (text : List ℕ) : Type 0 where
+pub record IsSent (types words : List (List ℕ)) (open_end : Bool) (bytes : List ℕ) (start now : Option (List ℕ))
+    (w : Walk) (text : List ℕ) : Type 0 where
   pub messages : List (List ℕ)
   pub ahead : IsAhead types words (ahead w) bytes messages
   pub gathers : Gathers start now (w.lines.gathered.items ++ text_behind open_end w.lines.begun messages) text

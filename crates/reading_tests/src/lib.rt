@@ -1,5 +1,6 @@
 //! Tests of what is read of archives: counts by log type and by minute, the text of a file as a
-//! source and into a sink, and the files of an archive as jobs. They call what the crates make public.
+//! source and into a sink, and the files of an archive as jobs. They call what the crates make
+//! public.
 #![tactic(auto)]
 
 #[cfg(test)]
