@@ -3,6 +3,7 @@ ghost use Rattle.std.specs.Prelude.{◌≡◌, ◌<◌, ◌≤◌, ℕ, List, Op
 ghost use Rattle.log_seams.specs.Disk.{Rests};
 ghost use Rattle.log_seams.specs.Outside.{CountsOf};
 ghost use Rattle.sink_pieces.specs.Output.{Took};
+ghost use Rattle.row_codec.specs.Laid.{AreCut};
 ghost use Rattle.archive_open.specs.Archive.{shown};
 ghost use Rattle.archive_open.specs.Shown.{Opens, StandsForNone};
 ghost use Rattle.archive_text.specs.Ahead.{IsPast, ahead, work};
@@ -18,6 +19,11 @@ use row_codec::{Layouts, Names};
 use sink_pieces::{flush, flush_piece};
 use std::alloc::Global;
 
+// Of how many log types the text is cut before rows are written: of the common ones, which come first.
+// What is cut is longer than the text, and of an archive whose messages have several lines most log types
+// have one row. Free to tune.
+const LAID_TYPES: u32 = 4096;
+
 // Sends the rows that are left of the page in hand, each piece once there is enough for it.
 fn send_page<N: Names, K: Sink>(
     names: &N,
@@ -25,7 +31,7 @@ fn send_page<N: Names, K: Sink>(
     walk: &mut Walk<'_>,
     out: &mut K,
 ) -> Result<(), DecodeRefusal>
-    requires types { layouts.now ≡ N.types names.now }
+    requires types { AreCut layouts.now (N.types names.now) }
 
     // what stays
     ensures work { OnOk result (work (ahead walk.new) ≡ work (ahead walk.old)) }
@@ -60,7 +66,7 @@ fn send_pages<N: Names, D: Disk, K: Sink>(
     walk: &mut Walk<'_>,
     out: &mut K,
 ) -> Result<(), DecodeRefusal>
-    requires types { layouts.now ≡ N.types names.now }
+    requires types { AreCut layouts.now (N.types names.now) }
     requires done { length walk.old.columns.rows ≤ walk.old.row }
 
     // what stays
@@ -96,7 +102,7 @@ fn send_all<N: Names, D: Disk, K: Sink>(
     walk: &mut Walk<'_>,
     out: &mut K,
 ) -> Result<(), DecodeRefusal>
-    requires types { layouts.now ≡ N.types names.now }
+    requires types { AreCut layouts.now (N.types names.now) }
     requires done { length walk.old.columns.rows ≤ walk.old.row }
 
     // what stays
@@ -157,7 +163,7 @@ pub fn decode<N: KeepsTexts + Drop, D: Disk, K: Sink>(
     ensures sink { CountsOf DecodeRefusal.SinkFault (K.faults out.old) (K.faults out.new) result }
 {
     let names = archive.names();
-    let layouts = Layouts::of(alloc, names)?;
+    let layouts = Layouts::front(alloc, names, LAID_TYPES)?;
     let places = segments_of(archive.segments().as_slice(), number);
     let open_end = ends_open(&archive.files().as_slice()[number as usize]);
     let mut walk = Walk::new(alloc, places, TextRoom::new(alloc), 0);

@@ -2,6 +2,7 @@
 ghost use Rattle.std.specs.Prelude.{◌≡◌, ◌+◌, ◌≤◌, ◌<◌, ◌⊎◌, length, IfOk, IsErrOf, IsTrue, OnErr, OnOk};
 ghost use Rattle.log_seams.specs.Disk.{Rests};
 ghost use Rattle.log_seams.specs.Outside.{CountsOf};
+ghost use Rattle.row_codec.specs.Laid.{AreCut};
 ghost use Rattle.archive_text.specs.Way.{GivesTold, NotOnWay, OnWayTold};
 
 use crate::walk::{Walk, gather};
@@ -17,7 +18,7 @@ fn fill<N: Names, D: Disk>(
     disk: &mut D,
     walk: &mut Walk<'_>,
 ) -> Result<(), PageRefusal>
-    requires types { layouts.now ≡ N.types names.now }
+    requires types { AreCut layouts.now (N.types names.now) }
     requires within { walk.old.lines.sent ≤ length walk.old.lines.gathered.items }
 
     // what stays
@@ -60,7 +61,7 @@ pub(crate) fn give_next<N: Names, D: Disk>(
     walk: &mut Walk<'_>,
     buf: &mut [u8],
 ) -> Result<usize, PageRefusal>
-    requires types { layouts.now ≡ N.types names.now }
+    requires types { AreCut layouts.now (N.types names.now) }
     requires within { walk.old.lines.sent ≤ length walk.old.lines.gathered.items }
     requires room { 0 < length buf.old }
 

@@ -1,6 +1,7 @@
 //! The text that was written out and not given yet.
 ghost use Rattle.std.specs.Prelude.{◌≡◌, ◌++◌, ◌≤◌, ◌+◌, ◌-◌, ℕ, List, [], drop, false, length, min, take, true, IfOk, IsFalse, IsTrue, OnErr, OnOk};
 ghost use Rattle.column_store.specs.Row.{row_of};
+ghost use Rattle.row_codec.specs.Laid.{AreCut};
 ghost use Rattle.row_codec.specs.Means.{HasSpelling, IsSpelling};
 ghost use Rattle.archive_text.specs.Newlines.{behind, ending, separator};
 
@@ -75,7 +76,7 @@ impl Lines {
         names: &N,
         writer: &mut RowWriter<'_>,
     ) -> Result<bool, AllocError>
-        requires types { writer.old ≡ N.types names.now }
+        requires types { AreCut writer.old (N.types names.now) }
 
         // what stays
         ensures types { writer.new ≡ writer.old }

@@ -1,5 +1,6 @@
 //! The rows of a page, written out.
 ghost use Rattle.std.specs.Prelude.{◌≡◌, ◌<◌, ◌≤◌, ◌⊎◌, ℕ, List, drop, length, IfOk, IsErrOf};
+ghost use Rattle.row_codec.specs.Laid.{AreCut};
 ghost use Rattle.archive_text.specs.Ahead.{WritesRows};
 ghost use Rattle.archive_text.specs.Told.{AreWritten};
 
@@ -18,7 +19,7 @@ pub(crate) fn write_page<N: Names>(
     layouts: &Layouts,
     lines: &mut Lines,
 ) -> Result<u32, PageRefusal>
-    requires types { layouts.now ≡ N.types names.now }
+    requires types { AreCut layouts.now (N.types names.now) }
 
     // what stays
     ensures sent { lines.new.sent ≡ lines.old.sent }

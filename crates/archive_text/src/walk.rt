@@ -3,6 +3,7 @@ ghost use Rattle.std.specs.Prelude.{◌≡◌, ◌≤◌, ◌<◌, ◌⊎◌, �
 ghost use Rattle.log_seams.specs.Disk.{Rests};
 ghost use Rattle.log_seams.specs.Outside.{CountsOf};
 ghost use Rattle.column_store.specs.declared.row.Row.{Row};
+ghost use Rattle.row_codec.specs.Laid.{AreCut};
 ghost use Rattle.segment_pages.specs.Paged.{HoldsLeft, HoldsSegment, paged_first};
 ghost use Rattle.step_count.specs.Opens.{OpensFor};
 ghost use Rattle.archive_text.specs.Ahead.{GoesTold, Goes, HasNoPage, HasPage, IsAhead, IsPast, NotAhead, ahead, work};
@@ -248,7 +249,7 @@ pub(crate) fn write_rows<N: Names>(
     layouts: &Layouts,
     walk: &mut Walk<'_>,
 ) -> Result<(), PageRefusal>
-    requires types { layouts.now ≡ N.types names.now }
+    requires types { AreCut layouts.now (N.types names.now) }
 
     // what stays
     ensures sent { walk.new.lines.sent ≡ walk.old.lines.sent }
@@ -284,7 +285,7 @@ pub(crate) fn gather<N: Names, D: Disk>(
     disk: &mut D,
     walk: &mut Walk<'_>,
 ) -> Result<bool, PageRefusal>
-    requires types { layouts.now ≡ N.types names.now }
+    requires types { AreCut layouts.now (N.types names.now) }
 
     // what stays
     ensures rests { Rests (D.state disk.old) (D.state disk.new) }

@@ -2,12 +2,16 @@ use Rattle.std.proofs.Common.{◌≡◌, ap, drop, rules, subst, sym, ◌∙◌}
 use Rattle.std.specs.Prelude.{option_map}
 use Rattle.log_seams.specs.Outside.{Takes}
 use Rattle.log_seams.proofs.MomentLemmas.{rests_on}
+use Rattle.row_codec.proofs.LayoutLemmas.{all_cut}
 use Rattle.archive_text.specs.declared.cause.TextCause.{TextCause}
 use Rattle.archive_text.specs.Caused.{CountsBy}
 use Rattle.archive_text.specs.State.{TextState}
 use Rattle.archive_text.proofs.CauseLemmas.{counts_page, damage_is, damaged_told, no_cause}
 use Rattle.archive_text.proofs.WayLemmas.{takes_text}
 use Rattle.archive_text.proofs.file_text.FileText.give.Goals as goal
+
+pub give_next-requires-clause-types : goal.give_next-requires-clause-types
+give_next-requires-clause-types g c = all_cut _ _ c.self.invariant.layouts
 
 pub invariant_of-self-in-Err : goal.invariant_of-self-in-Err
 invariant_of-self-in-Err g c =
