@@ -118,7 +118,7 @@ fn dictionary_word<N: Names>(word: u64, names: &N) -> Option<&[u8]>
     }
 }
 
-/// The same, empty where there is none.
+/// The text of a dictionary word by the word of a row, empty where there is none.
 fn word_text<N: Names>(word: u64, names: &N) -> &[u8]
     ensures { result.now ≡ text_at (N.words names.now) word }
 {

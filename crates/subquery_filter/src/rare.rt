@@ -20,7 +20,7 @@ fn lacks_token(token: &Token, others: u8, text: &[u8]) -> bool
     !token.storing.matches(text)
 }
 
-/// The same of the token at a place.
+/// Whether a log type lacks the token at a place, which rows bring in no other way.
 fn lacks_at(tokens: &[Token], place: usize, others: u8, text: &[u8]) -> bool
     ensures { IsTrue result → LacksText tokens.now others text.now }
 {

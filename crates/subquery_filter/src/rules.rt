@@ -39,8 +39,9 @@ pub fn barren<N: Names>(head: &Head, plan: &Plan, range: &Range, names: &N) -> b
         || lacks_types(plan, head.types.as_slice(), names)
 }
 
-/// The same as [`barren`], where the numbers of the needed words were found before: for each needed
-/// word of the plan that is a variable, at its place, its number, and none where it is no word.
+/// Whether the segment is barren, as [`barren`] tells it, where the numbers of the needed words were
+/// found before: for each needed word of the plan that is a variable, at its place, its number, and
+/// none where it is no word.
 ///
 /// Costs a binary search for each needed variable, and then a walk over the texts of the head's log
 /// types up to the first that has all.
@@ -118,7 +119,8 @@ fn is_missing<N: Names>(text: &[u8], listed: &[u32], names: &N) -> bool
     }
 }
 
-/// The same of a needed word, which is a variable or not.
+/// Whether a needed word is a variable that is to be a word of the dictionary, and the list has no
+/// number of it.
 fn is_missing_variable<N: Names>(variable: bool, text: &[u8], listed: &[u32], names: &N) -> bool
     ensures { IsStrictlyIncreasing listed.now → AreDistinct (N.words names.now)
         → IsTrue result ↔ ((variable ≡ true) × IsMissing (N.words names.now) listed.now text.now) }
@@ -156,7 +158,8 @@ fn is_unlisted(text: &[u8], number: Option<u32>, listed: &[u32]) -> bool
     }
 }
 
-/// The same of a needed word, which is a variable or not.
+/// Whether a needed word is a variable that is to be a word of the dictionary, and the list has not
+/// its number, which was found before.
 fn is_unlisted_variable(variable: bool, text: &[u8], number: Option<u32>, listed: &[u32]) -> bool
     ensures { (words : List (List ℕ)) → IsStrictlyIncreasing listed.now → AreDistinct words
         → (variable ≡ true → IsNumber words text.now number)

@@ -57,7 +57,7 @@ fn begins_run(text: &[u8], word: &[u8]) -> bool
     is_run_end(rest)
 }
 
-/// The same where a run may begin at the front, and else no.
+/// Whether a run may begin at the front of a text, and the one there is the word.
 fn begins_here(may_begin: bool, text: &[u8], word: &[u8]) -> bool
     ensures { IsTrue result ↔ (IsTrue may_begin × BeginsRun text.now word.now) }
 {

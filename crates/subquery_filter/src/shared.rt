@@ -106,7 +106,7 @@ fn span_bits(tokens: &[Token], pattern: u8, span: Span, printer: &mut StampPrint
     chunk_marks(tokens, &low[..front])
 }
 
-/// The same span, with what stamps of the pattern may bring there.
+/// A span of moments, with what stamps of the pattern may bring there.
 fn with_bits(tokens: &[Token], runs: &[Run], pattern: u8, span: Span) -> Span
     ensures { 1 ≤ pattern → IsSpan tokens.now runs.now pattern result }
 {

@@ -19,7 +19,7 @@ pub(crate) struct Token {
     pub(crate) chunk: Text,
     /// Matches the texts that the token stands in.
     pub(crate) matcher: Matcher,
-    /// The same as a pattern.
+    /// The pattern of these texts: the token with any bytes on both sides.
     pub(crate) pattern: Pattern,
     /// Matches the texts of log types in which the token stands among the constant bytes, as they
     /// are stored.

@@ -115,8 +115,8 @@ pub fn verdict_of(plan: &Plan, text: &[u8]) -> Verdict
     }
 }
 
-/// The same of a log type among whose constant bytes all tokens stand, so that mostly it is certain:
-/// that is asked first.
+/// What the text of a log type tells of its messages, among whose constant bytes all tokens stand.
+/// Mostly it is certain, so that is asked first.
 pub(crate) fn verdict_in_order(plan: &Plan, text: &[u8]) -> Verdict
     ensures rejected { (parts : List Part) → text.now ≡ type_text (map symbol_of parts)
         → result ≡ Verdict.Rejected → IsRejected plan.now parts }
