@@ -23,7 +23,7 @@ use Told::{Asked, Passed, Stays};
 type Case = (&'static [u8], Page, &'static [Told]);
 
 /// One that has a token of its own, one with a word alone, one with a number, one with a decimal, one with
-/// two words, and one without a slot.
+/// two words, one without a slot, and one with a number alone.
 const TYPES: &[&[u8]] = &[
     b"late \x12 end",
     b"gone \x12",
@@ -31,9 +31,17 @@ const TYPES: &[&[u8]] = &[
     b"took \x13 for \x12",
     b"from \x12 to \x12",
     b"plain",
+    b"size \x11",
 ];
 
-const WORDS: &[&[u8]] = &[b"task_1", b"zeta_7", b"k404", b"beta_2"];
+const WORDS: &[&[u8]] = &[
+    b"task_1",
+    b"zeta_7",
+    b"k404",
+    b"beta_2",
+    b"id27891811x",
+    b"027891811",
+];
 
 /// The words of `0.5` and `-0.5`.
 const HALF: u64 = 0x510;
@@ -118,6 +126,155 @@ const CASES: &[Case] = &[
     (b"*", &[(1, &[0]), (5, &[])], &[Stays, Stays]),
 ];
 
+/// The sign of a decimal. Its word has the digits read as one number, then how many there are less one,
+/// and how many of them stand behind the point less one.
+const MINUS: u64 = MINUS_HALF - HALF;
+
+/// Numbers that a long token may be a part of: those with fewer digits are passed by their words.
+const LONG: &[Case] = &[
+    // whole numbers about the least one with so many digits
+    (
+        b"27891811",
+        &[
+            (2, &[7, 0]),
+            (2, &[9_999_999, 0]),
+            (2, &[10_000_000, 0]),
+            (2, &[27_891_811, 0]),
+            (2, &[7_891_811, 0]),
+            (2, &[278_918_110, 0]),
+            (6, &[9_527_891_811]),
+            (6, &[2_789_181]),
+        ],
+        &[Asked, Passed, Asked, Stays, Passed, Stays, Stays, Passed],
+    ),
+    // the least one with so many digits, as all of a number and as a part
+    (
+        b"10000000",
+        &[
+            (6, &[7]),
+            (6, &[9_999_999]),
+            (6, &[10_000_000]),
+            (6, &[9_999_998]),
+            (6, &[310_000_000]),
+        ],
+        &[Asked, Passed, Stays, Passed, Stays],
+    ),
+    // below zero
+    (
+        b"10000000",
+        &[
+            (6, &[7]),
+            (6, &[u64::MAX - 9_999_999]),
+            (6, &[7]),
+            (6, &[u64::MAX - 9_999_998]),
+        ],
+        &[Asked, Stays, Passed, Asked],
+    ),
+    // words that hold the digits, among them a number with a zero in front
+    (
+        b"27891811",
+        &[
+            (2, &[7, 0]),
+            (2, &[7, 1]),
+            (2, &[7, 4]),
+            (2, &[7, 5]),
+            (4, &[0, 4]),
+            (4, &[5, 0]),
+            (1, &[0]),
+        ],
+        &[Asked, Passed, Stays, Stays, Stays, Stays, Passed],
+    ),
+    // decimals with as many digits, with more, and with a sign
+    (
+        b"27891811",
+        &[
+            (3, &[15 << 8 | 0x10, 0]),
+            (3, &[1 << 8 | 0x76, 0]),
+            (3, &[27_891_811 << 8 | 0x73, 0]),
+            (3, &[27_891_811 << 8 | 0x87, 0]),
+            (3, &[278_918_115 << 8 | 0x80, 0]),
+            (3, &[2_789 << 8 | 0x76, 0]),
+            (3, &[MINUS + (278_918_115 << 8 | 0x80), 0]),
+            (3, &[10_000_000 << 8 | 0x70, 0]),
+        ],
+        &[Asked, Passed, Asked, Stays, Stays, Passed, Stays, Asked],
+    ),
+    (
+        b"10000000",
+        &[
+            (3, &[HALF, 0]),
+            (3, &[10_000_000 << 8 | 0x87, 0]),
+            (3, &[100_000_000 << 8 | 0x80, 0]),
+            (3, &[HALF, 0]),
+        ],
+        &[Asked, Stays, Stays, Passed],
+    ),
+    // zeros in front, and a point: the digits of a decimal may be few
+    (
+        b"00027891",
+        &[
+            (3, &[HALF, 0]),
+            (3, &[27_891 << 8 | 0x87, 0]),
+            (3, &[HALF, 0]),
+        ],
+        &[Asked, Stays, Asked],
+    ),
+    (
+        b"0.0002789",
+        &[
+            (3, &[HALF, 0]),
+            (3, &[2_789 << 8 | 0x76, 0]),
+            (3, &[HALF, 0]),
+        ],
+        &[Asked, Stays, Asked],
+    ),
+    // beside a word, and beside a longer number
+    (
+        b"27891811*zeta_7",
+        &[
+            (2, &[7, 0]),
+            (2, &[27_891_811, 1]),
+            (2, &[27_891_811, 0]),
+            (2, &[7, 1]),
+            (2, &[7, 3]),
+        ],
+        &[Asked, Stays, Asked, Asked, Passed],
+    ),
+    (
+        b"27891811*474106491523",
+        &[
+            (6, &[7]),
+            (6, &[27_891_811]),
+            (6, &[474_106_491_523]),
+            (6, &[7]),
+        ],
+        &[Asked, Asked, Asked, Passed],
+    ),
+    // a closed number beside it
+    (
+        b" 404 * 27891811",
+        &[(2, &[7, 0]), (2, &[404, 4]), (2, &[404, 0]), (2, &[7, 0])],
+        &[Asked, Stays, Asked, Passed],
+    ),
+    // as many digits as a word of eight bytes may have, and more
+    (
+        b"1000000000000000000",
+        &[
+            (6, &[7]),
+            (6, &[999_999_999_999_999_999]),
+            (6, &[1_000_000_000_000_000_000]),
+            (6, &[u64::MAX - 999_999_999_999_999_999]),
+            (6, &[100_000_000_000_000_000]),
+        ],
+        &[Asked, Passed, Stays, Stays, Passed],
+    ),
+    (
+        b"10000000000000000000",
+        &[(6, &[7]), (6, &[7]), (6, &[9_223_372_036_854_775_807])],
+        &[Asked, Passed, Asked],
+    ),
+];
+
 /// What is told of the next row.
 fn next_told(
     filter: &Filter,
@@ -174,27 +331,41 @@ fn books_of(alloc: Global) -> Result<Books, Fail> {
     Ok(books)
 }
 
-#[test]
-fn rows_by_the_words_of_their_page(rt: HostRuntime) -> Result<(), Fail> {
-    let books = books_of(rt.alloc())?;
-    let told = told_cases(rt.alloc(), &books, CASES)?;
-    if told == CASES.len() {
+/// Whether all cases are as told.
+fn all_told(alloc: Global, cases: &[Case]) -> Result<(), Fail> {
+    let books = books_of(alloc)?;
+    let told = told_cases(alloc, &books, cases)?;
+    if told == cases.len() {
         Ok(())
     } else {
         Err(Fail::new(told))
     }
 }
 
+#[test]
+fn rows_by_the_words_of_their_page(rt: HostRuntime) -> Result<(), Fail> {
+    all_told(rt.alloc(), CASES)
+}
+
+#[test]
+fn rows_by_the_long_numbers_of_their_page(rt: HostRuntime) -> Result<(), Fail> {
+    all_told(rt.alloc(), LONG)
+}
+
+/// The rows of a page: the log type of all of them, the word of most, the word of one, and that of the
+/// last.
+type Rows = (u32, u64, u64, u64);
+
 /// Whether the page's only row with the word that counts stays, behind so many rows without.
-fn stays_behind(alloc: Global, filter: &Filter, rows: usize) -> Result<bool, Fail> {
+fn stays_behind(alloc: Global, filter: &Filter, page: Rows, rows: usize) -> Result<bool, Fail> {
     let mut words = Vec::new(alloc);
-    words.resize(rows, 0)?;
-    words.push(1)?;
-    words.push(3)?;
+    words.resize(rows, page.1)?;
+    words.push(page.2)?;
+    words.push(page.3)?;
     let mut hit = 0;
     for place in 0..words.len() {
         let end = place.saturating_add(1);
-        let known = filter.rejects_row(1, words.as_slice(), place, end, &mut hit);
+        let known = filter.rejects_row(page.0, words.as_slice(), place, end, &mut hit);
         if known != (place != 0 && place != rows) {
             return Ok(false);
         }
@@ -202,15 +373,25 @@ fn stays_behind(alloc: Global, filter: &Filter, rows: usize) -> Result<bool, Fai
     Ok(true)
 }
 
-#[test]
-fn a_word_at_each_place_of_a_page(rt: HostRuntime) -> Result<(), Fail> {
-    let books = books_of(rt.alloc())?;
-    let plan = plan_of(rt.alloc(), b"zeta_7")?;
-    let filter = Filter::new(rt.alloc(), &plan, &books)?;
+/// Whether it stays behind each number of rows below fifty.
+fn stays_anywhere(alloc: Global, pattern: &[u8], page: Rows) -> Result<(), Fail> {
+    let books = books_of(alloc)?;
+    let plan = plan_of(alloc, pattern)?;
+    let filter = Filter::new(alloc, &plan, &books)?;
     for rows in 0..50 {
-        if !stays_behind(rt.alloc(), &filter, rows)? {
+        if !stays_behind(alloc, &filter, page, rows)? {
             return Err(Fail::new(rows));
         }
     }
     Ok(())
+}
+
+#[test]
+fn a_word_at_each_place_of_a_page(rt: HostRuntime) -> Result<(), Fail> {
+    stays_anywhere(rt.alloc(), b"zeta_7", (1, 0, 1, 3))
+}
+
+#[test]
+fn a_number_at_each_place_of_a_page(rt: HostRuntime) -> Result<(), Fail> {
+    stays_anywhere(rt.alloc(), b"10000000", (6, 9_999_999, 10_000_000, 5))
 }

@@ -1,6 +1,6 @@
 -- How many digits a whole number has.
-use Rattle.std.proofs.Common.{◌≡◌, ℕ, ◌<◌, ◌≤◌, ◌^◌, false, true, List, [], ◌∷◌, length, subst, arith, inl, inr}
-use Rattle.std.specs.Prelude.{None}
+use Rattle.std.proofs.Common.{◌≡◌, ℕ, ◌<◌, ◌≤◌, ◌/◌, ◌%◌, ◌^◌, false, true, List, [], ◌∷◌, length, refl, subst, arith, inl, inr}
+use Rattle.std.specs.Prelude.{All, None}
 use Rattle.std.specs.Fmt.{decimal, signed_decimal}
 use Rattle.std.specs.Int.{cast_signed, w64}
 use Rattle.std.proofs.Math.Nat.{pow-le-pow_right}
@@ -11,9 +11,10 @@ use Rattle.wild_match.specs.declared.pattern.Item.TheVariants.{Many}
 use Rattle.query_plan.specs.Needs.{around}
 use Rattle.query_plan.specs.Pieces.{bytes}
 use Rattle.subquery_filter.specs.declared.token.Token.{Token}
-use Rattle.subquery_filter.specs.NumberText.{is_digits}
+use Rattle.subquery_filter.specs.Filter.{IsBound, IsLeast}
+use Rattle.subquery_filter.specs.NumberText.{is_digits, is_number_part, is_plain}
 use Rattle.subquery_filter.specs.StepsFilter.{NoneBelow}
-use Rattle.subquery_filter.proofs.DecimalLemmas.{small_signed}
+use Rattle.subquery_filter.proofs.DecimalLemmas.{small_signed, told_marks}
 use Rattle.subquery_filter.proofs.NumberLemmas.{all_are, digits_in, stands_in}
 
 -- ---- a bound of the digits
@@ -52,3 +53,17 @@ pub too_long : (k : Token) (least size : ℕ) → size ≡ length k.text → ((n
 too_long k least size is few n below free m =
     let short = few n below in
     omega (arith, is, short.1, around_long k.text (decimal n) (own_text k n short.0 m))
+
+-- ---- a bound of the words of all numbers
+
+pub bound_none : (tokens : List Token) → IsBound tokens 0
+bound_none tokens = record { whole = λ n below. absurd (omega (arith, below)); decimal = λ word below. absurd (omega (arith, below)) }
+
+pub bound_is : (tokens : List Token) (least : ℕ) → IsLeast tokens least → All (λ k. k.closed ≡ None → is_number_part true k.text ≡ true → is_plain k.text ≡ true) tokens → IsBound tokens least
+bound_is tokens least below_least plain = record {
+  whole = below_least;
+  decimal = λ word below text is.
+      let number : ℕ = word / 2 ^ 8 % 2 ^ 54 in
+      let small : number ≤ word = omega arith in
+      told_marks tokens word number 0 refl (below_least number (omega (arith, small, below))) plain text is;
+}

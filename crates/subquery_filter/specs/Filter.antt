@@ -107,9 +107,15 @@ AreSmall tokens small = (n bits : ℕ) → slice_get small n ≡ Some bits → M
 abbrev pub IsLeast : List Token → ℕ → Type 0
 IsLeast tokens least = (n : ℕ) → n < least → MarksOpen tokens (signed_decimal (cast_signed w64 n)) 0
 
--- what is told of whole numbers by their words is right
+-- no token stands in a number whose word is below this, a whole one or a decimal, but for closed variables
+pub record IsBound (tokens : List Token) (bound : ℕ) : Type 0 where
+  pub whole : IsLeast tokens bound
+  pub decimal : (word : ℕ) → word < bound → (text : List ℕ) → Codes text (DecimalWord word) → MarksOpen tokens text 0
+
+-- what is told of numbers by their words is right
 pub record TellsSmall (tokens : List Token) (small : SmallNumbers) : Type 0 where
   pub least : IsLeast tokens small.least
+  pub bound : IsBound tokens small.bound
   pub marks : AreSmall tokens small.marks.items
 
 -- what each pattern's stamps may bring stands at its number
@@ -243,37 +249,38 @@ IsOpenNumber k = (k.closed ≡ None) × (is_number_part true k.text ≡ true)
 abbrev pub AreOpenBits : List Token → ℕ → Type 0
 AreOpenBits tokens bits = All (λ k. IsOpenNumber k → Has bits k.bit) tokens
 
--- the constant bytes of a log type of which this is known, all stamps and all such tokens do not bring all that is
--- wanted
-pub record LacksBare (tokens : List Token) (test : TypeTest) (stamped wanted : ℕ) : Type 0 where
+-- the constant bytes of a log type of which this is known, all stamps, and all such tokens where no bound tells of
+-- them, do not bring all that is wanted
+pub record LacksBare (tokens : List Token) (test : TypeTest) (stamped wanted bound : ℕ) : Type 0 where
   pub bits : ℕ
   pub has : Has bits test.has
   pub stamps : Has bits stamped
-  pub numbers : AreOpenBits tokens bits
+  pub numbers : bound ≡ 0 → AreOpenBits tokens bits
   pub lacks : ¬ Has bits wanted
 
--- what rows of the log type with this number need is right, by the tokens, what is known of the log types, and the verdicts
--- on them
-abbrev pub IsNeed : List Token → List TypeTest → ℕ → ℕ → List Verdict → ℕ → Need → Type 0
-IsNeed tokens tests stamped wanted verdicts t Never = slice_get verdicts t ≡ Some Rejected
-IsNeed tokens tests stamped wanted verdicts t Hit =
-    (test : TypeTest) × (slice_get tests t ≡ Some test) × (test.verdict ≡ Tried) × LacksBare tokens test stamped wanted
-IsNeed tokens tests stamped wanted verdicts t Open = Unit {0}
+-- what rows of the log type with this number need is right, by the tokens, what is known of the log types, the bound of the
+-- words of numbers, and the verdicts on the log types
+abbrev pub IsNeed : List Token → List TypeTest → ℕ → ℕ → ℕ → List Verdict → ℕ → Need → Type 0
+IsNeed tokens tests stamped wanted bound verdicts t Never = slice_get verdicts t ≡ Some Rejected
+IsNeed tokens tests stamped wanted bound verdicts t Hit =
+    (test : TypeTest) × (slice_get tests t ≡ Some test) × (test.verdict ≡ Tried) × LacksBare tokens test stamped wanted bound
+IsNeed tokens tests stamped wanted bound verdicts t Open = Unit {0}
 
 -- so it is of each log type of a filter, by their numbers
 abbrev pub AreNeeds : Filter → List Verdict → List Need → Type 0
 AreNeeds f verdicts needs =
     (t : ℕ) (need : Need) → slice_get needs t ≡ Some need
-    → IsNeed f.tokens.items f.tests.items f.stamped f.wanted verdicts t need
+    → IsNeed f.tokens.items f.tests.items f.stamped f.wanted f.small.bound verdicts t need
 
 -- the token is no closed variable that is stored as this word
 abbrev pub IsNoCode : Token → ℕ → Type 0
 IsNoCode k word = (k.closed ≢ Some (WholeWord (cast_signed w64 word))) × (k.closed ≢ Some (DecimalWord word))
 
--- the word is not marked, and no closed variable is stored as it is
+-- the word is not marked, no closed variable is stored as it is, and it is below the bound of numbers where there is one
 pub record CountsNot (f : Filter) (word : ℕ) : Type 0 where
   pub marks : marks_at f.marks word ≡ 0
   pub code : All (λ k. IsNoCode k word) f.tokens.items
+  pub below : 0 < f.small.bound → word < f.small.bound
 
 -- so it is of all words from one place up to another
 abbrev pub NoneCounts : Filter → List ℕ → ℕ → ℕ → Type 0

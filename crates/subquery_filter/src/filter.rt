@@ -28,7 +28,7 @@ use crate::run::Run;
 use crate::run_stamps::{mark_runs, runs_within, stamp_runs};
 use crate::shared::{PageTests, StampBits};
 use crate::slots::{Question, Slot, TypeTest, test_types};
-use crate::small::{SmallNumbers, small_needed};
+use crate::small::{SmallNumbers, has_bound, small_needed};
 use crate::stamps::{bits_within, mark_stamps, stamp_bits};
 use crate::token::Token;
 use crate::tokens::{all_bits, stored_text, tokens_of};
@@ -71,8 +71,8 @@ pub struct Filter {
     brought: u8,
     /// The bits that numbers may bring.
     numbers: u8,
-    /// What is told of whole numbers by their words.
-    small: SmallNumbers,
+    /// What is told of numbers by their words.
+    pub(crate) small: SmallNumbers,
     /// The bits that stamps may bring, by the numbers of their patterns, and those of all patterns.
     stamps: Vec<u8>,
     pub(crate) stamped: u8,
@@ -195,7 +195,7 @@ impl Filter {
         Ok(verdicts)
     }
 
-    /// The same with the verdicts on all log types.
+    /// This filter with the verdicts on all log types, and with what their rows need.
     fn told(self, alloc: Global) -> Result<Filter, AllocError>
         ensures asks { IfOk result (λ f. (ps : List Piece) (types : List (List ℕ))
             → AsksTypes ps types self → AsksTypes ps types f) }
@@ -273,6 +273,7 @@ impl Filter {
             firm: firm_bits(looked) & others,
             runs: run_bits(runs),
             stamped: self.run_stamped,
+            bounded: has_bound(looked),
         };
         let mut slots = Vec::new(alloc);
         let mut tests = Vec::new(alloc);
@@ -647,7 +648,7 @@ impl Filter {
         )
     }
 
-    /// The same as `verdict`, with what goes along from row to row of a page.
+    /// What is known of a row of a page, as `verdict` tells it, with what goes along from row to row.
     #[inline]
     pub fn verdict_in(&self, row: RowRef<'_>, page: &mut PageTests) -> Verdict
         ensures told { IsPage self.now page.old

@@ -1,5 +1,5 @@
 //! The marks of words, by the numbers of those in which tokens stand.
-ghost use Rattle.std.specs.Prelude.{◌≡◌, ◌<◌, ◌^◌, ℕ, [], IfOk, OnOk, bit_and, bit_or, length, set, slice_index_or};
+ghost use Rattle.std.specs.Prelude.{◌≡◌, ◌<◌, ◌^◌, ℕ, [], IfOk, IsTrue, OnOk, bit_and, bit_or, length, set, slice_index_or};
 ghost use Rattle.subquery_filter.specs.Filter.{Has, marks_at};
 ghost use Rattle.subquery_filter.specs.StepsFilter.{HasAt, HasLists, KeepsBits};
 
@@ -83,7 +83,7 @@ fn add_number(table: &mut Vec<u8>, mask: u64, bit: u8, number: u32) -> Result<()
     Ok(())
 }
 
-/// The same for each of these numbers.
+/// Adds the bit of a token behind the low bits of each of these numbers.
 fn add_numbers(table: &mut Vec<u8>, mask: u64, bit: u8, numbers: &[u32]) -> Result<(), AllocError>
     ensures added { OnOk result (HasAt table.new.items mask bit numbers.now) }
     ensures keeps { OnOk result (KeepsBits table.old.items table.new.items) }
@@ -113,7 +113,7 @@ fn add_list(
     Ok(())
 }
 
-/// The same for all tokens.
+/// Adds the bits of all tokens behind the numbers of their lists.
 fn add_lists(
     table: &mut Vec<u8>,
     mask: u64,
@@ -159,6 +159,14 @@ impl WordMarks {
         ensures { (n : ℕ) → Has result (marks_at self.now n) }
     {
         any_of(self.table.as_slice())
+    }
+
+    /// Whether there are none.
+    #[inline]
+    pub(crate) fn is_empty(&self) -> bool
+        ensures { IsTrue result → (n : ℕ) → marks_at self.now n ≡ 0 }
+    {
+        self.table.as_slice().is_empty()
     }
 
     /// The marks of a number.

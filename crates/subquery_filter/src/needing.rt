@@ -1,6 +1,6 @@
 //! Rows that are told by the words of their page: a row of most log types is rejected where none of
 //! its variables counts, whatever its slots are.
-ghost use Rattle.std.specs.Prelude.{◌≡◌, ◌≢◌, ◌≤◌, ◌+◌, List, All, IfOk, IfSome, IsFalse, IsTrue, Some, length, slice_get, slice_range};
+ghost use Rattle.std.specs.Prelude.{◌≡◌, ◌≢◌, ◌<◌, ◌≤◌, ◌+◌, ℕ, List, All, IfOk, IfSome, IsFalse, IsTrue, None, Some, length, slice_get, slice_index_or, slice_range};
 ghost use Rattle.std.specs.Int.{cast_signed, w64};
 ghost use Rattle.column_store.specs.Row.{row_of};
 ghost use Rattle.column_store.specs.declared.row.Row.{Row};
@@ -29,7 +29,8 @@ const BLOCK: usize = 16;
 pub(crate) enum Need {
     /// None is matched.
     Never,
-    /// A variable that counts: its word is marked, or a closed variable is stored as it is.
+    /// A variable that counts: its word is marked, a closed variable is stored as it is, or it may be
+    /// that of a number which an open token is a part of.
     Hit,
     /// Each row is asked.
     Open,
@@ -71,6 +72,9 @@ pub(crate) fn firm_bits(tokens: &[Token]) -> u8 {
 fn marks_of(marks: &WordMarks, block: &[u64]) -> u8
     ensures { HasEach marks.now block.now result }
 {
+    if marks.is_empty() {
+        return 0;
+    }
     let mut bits = 0;
     for word in block {
         bits |= marks.at(*word);
@@ -128,6 +132,54 @@ fn are_stored(tokens: &[Token], block: &[u64]) -> bool
     false
 }
 
+/// Whether one of these words is not below a bound.
+#[inline]
+fn has_large(block: &[u64], bound: u64) -> bool
+    ensures { IsFalse result → All (λ w. w < bound) block.now }
+{
+    for word in block {
+        if *word >= bound {
+            return true;
+        }
+    }
+    false
+}
+
+/// The next place of a word that is not below a bound.
+#[inline]
+fn next_large(words: &[u64], from: usize, bound: u64) -> usize
+    ensures { (k : ℕ) → from ≤ k → k < result → k < length words.now
+        → slice_index_or words.now k 0 < bound }
+{
+    for place in from..words.len() {
+        if words[place] >= bound {
+            return place;
+        }
+    }
+    words.len()
+}
+
+/// Whether a token is a closed variable.
+#[inline]
+fn is_closed(token: &Token) -> bool
+    ensures { IsFalse result → token.now.closed ≡ None }
+{
+    token.closed.is_some()
+}
+
+/// Whether some token is a closed variable.
+#[inline]
+fn has_closed(tokens: &[Token]) -> bool
+    ensures { IsFalse result → All (λ k. k.closed ≡ None) tokens.now }
+{
+    for token in tokens {
+        if is_closed(token) {
+            return true;
+        }
+    }
+    false
+}
+
 /// So many words from a place on, where there are so many.
 #[inline]
 fn block_at(words: &[u64], at: usize, size: usize) -> Option<&[u64]>
@@ -148,12 +200,24 @@ impl Filter {
         self.tests.get(place).copied()
     }
 
+    /// The bits of the open tokens that numbers may bring, where their words do not tell which do.
+    fn untold_bits(&self) -> u8
+        ensures { self.now.small.bound ≡ 0 → AreOpenBits self.now.tokens.items result }
+    {
+        let bound = self.small.bound;
+        if bound > 0 {
+            return 0;
+        }
+        open_bits(self.tokens.as_slice())
+    }
+
     /// What a row of the log type at a place needs, by the bits that tokens may bring by numbers
     /// that are no closed variables.
     fn type_need(&self, place: usize, verdict: Verdict, bits: u8) -> Need
-        ensures { AreOpenBits self.now.tokens.items bits → (verdicts : List Verdict)
-            → slice_get verdicts place ≡ Some verdict → IsNeed self.now.tokens.items
-            self.now.tests.items self.now.stamped self.now.wanted verdicts place result }
+        ensures { (self.now.small.bound ≡ 0 → AreOpenBits self.now.tokens.items bits)
+            → (verdicts : List Verdict) → slice_get verdicts place ≡ Some verdict
+            → IsNeed self.now.tokens.items self.now.tests.items self.now.stamped
+            self.now.wanted self.now.small.bound verdicts place result }
     {
         if verdict == Verdict::Rejected {
             return Need::Never;
@@ -175,7 +239,7 @@ impl Filter {
     ) -> Result<Vec<Need>, AllocError>
         ensures { IfOk result (λ needs. AreNeeds self.now verdicts.now needs.items) }
     {
-        let bits = open_bits(self.tokens.as_slice());
+        let bits = self.untold_bits();
         let mut needs = Vec::new(alloc);
         for place in 0..verdicts.len() {
             needs.push(self.type_need(place, verdicts[place], bits))?;
@@ -183,11 +247,24 @@ impl Filter {
         Ok(needs)
     }
 
+    /// Whether an open token may be a part of a number with one of these words, where that is told.
+    #[inline]
+    fn may_be_part(&self, block: &[u64]) -> bool
+        ensures { IsFalse result → 0 < self.now.small.bound
+            → All (λ w. w < self.now.small.bound) block.now }
+    {
+        let bound = self.small.bound;
+        bound > 0 && has_large(block, bound)
+    }
+
     /// Whether one of these words counts.
     #[inline]
     fn some_counts(&self, block: &[u64]) -> bool
         ensures { IsFalse result → All (CountsNot self.now) block.now }
     {
+        if self.may_be_part(block) {
+            return true;
+        }
         marks_of(&self.marks, block) != 0 || are_stored(self.tokens.as_slice(), block)
     }
 
@@ -214,6 +291,19 @@ impl Filter {
         self.are_open(row.words)
     }
 
+    /// Whether no word counts that is below the bound of numbers: none is marked, and no token is a closed
+    /// variable.
+    #[inline]
+    fn is_by_bound(&self) -> bool
+        ensures { IsTrue result → (word : ℕ) → word < self.now.small.bound
+            → CountsNot self.now word }
+    {
+        if !self.marks.is_empty() || has_closed(self.tokens.as_slice()) {
+            return false;
+        }
+        self.small.bound > 0
+    }
+
     /// A place up to which no word counts from another one on, as blocks of so many words tell.
     #[inline]
     fn past(&self, words: &[u64], from: usize, size: usize) -> usize
@@ -232,17 +322,21 @@ impl Filter {
         at
     }
 
-    /// The next place of a word that counts. Words before it are asked by blocks.
+    /// The next place of a word that counts. Words before it are asked by blocks, or one by one by the
+    /// bound alone.
     // A function of its own, so that its loop has the registers.
     #[inline(never)]
     fn next_counted(&self, words: &[u64], from: usize) -> usize
         ensures { NoneCounts self.now words.now from result }
     {
+        if self.is_by_bound() {
+            return next_large(words, from, self.small.bound);
+        }
         let near = self.past(words, from, BLOCK);
         self.past(words, near, 1)
     }
 
-    /// The same, where it is known up to which place none counts.
+    /// The next place of a word that counts, where it is known up to which place none does.
     #[inline]
     fn next_hit(&self, words: &[u64], start: usize, hit: usize) -> usize
         ensures { NoneCounts self.now words.now start hit
@@ -259,7 +353,7 @@ impl Filter {
     fn need_at(&self, number: u32) -> Need
         ensures { (verdicts : List Verdict) → AreNeeds self.now verdicts self.now.needs.items
             → IsNeed self.now.tokens.items self.now.tests.items self.now.stamped
-            self.now.wanted verdicts number result }
+            self.now.wanted self.now.small.bound verdicts number result }
     {
         match self.needs.get(number as usize) {
             Some(need) => *need,

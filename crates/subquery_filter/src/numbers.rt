@@ -136,7 +136,7 @@ pub(crate) fn whole_bits(tokens: &[Token], small: &SmallNumbers, word: u64) -> u
 /// which is no zero: they stand in it only where they stand in that of its digits read as one
 /// number.
 #[inline]
-fn are_plain(tokens: &[Token]) -> bool
+pub(crate) fn are_plain(tokens: &[Token]) -> bool
     ensures { IsTrue result → All (λ k. k.closed ≡ None → is_number_part true k.text ≡ true
         → is_plain k.text ≡ true) tokens.now }
 {
@@ -183,7 +183,8 @@ fn number_in(word: u64) -> u64
     word >> 8 & NUMBER
 }
 
-/// The same by what is told of its digits read as one number, where that tells enough.
+/// The bits of the tokens, but for closed variables, that stand in the text of a decimal: by what is
+/// told of its digits read as one number, where that tells enough.
 #[inline]
 fn open_decimal(tokens: &[Token], small: &SmallNumbers, word: u64) -> u8
     ensures { TellsSmall tokens.now small.now → (text : List ℕ) → Codes text (DecimalWord word)

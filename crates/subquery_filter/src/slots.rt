@@ -50,6 +50,8 @@ pub(crate) struct Question<'a> {
     /// The bits of all runs of the pattern, and of those that some stamp may have.
     pub(crate) runs: u8,
     pub(crate) stamped: u8,
+    /// Whether words tell of most numbers that no token is a part of them, whatever slots they are in.
+    pub(crate) bounded: bool,
 }
 
 /// A slot of a log type in which a token may stand.
@@ -107,12 +109,27 @@ impl Question<'_> {
         !has(self.stamped, alone) || (alone != 0 && has(alone, self.runs))
     }
 
-    /// Whether less may be asked of log types that few messages have: stamps may have all runs, so
-    /// that no log type is rejected by those that it leaves to them, and there are so many firm
-    /// tokens.
+    /// Whether less may be asked of log types that few messages have: words tell of numbers, or stamps
+    /// may have all runs, so that no log type is rejected by those that it leaves to them, and there are
+    /// so many firm tokens.
     #[inline]
     fn spares_rare(&self) -> bool {
-        has(self.stamped, self.runs) && self.firm.count_ones() >= LEAST_FIRM
+        self.bounded || (has(self.stamped, self.runs) && self.firm.count_ones() >= LEAST_FIRM)
+    }
+
+    /// The bits of the tokens that are looked for in such a log type.
+    #[inline]
+    fn rare_tokens(&self) -> u8 {
+        if self.bounded { self.others } else { self.firm }
+    }
+
+    /// Whether few rows are left by the words of such a log type whose constant bytes bring these bits.
+    #[inline]
+    fn leaves_few(&self, known: u8) -> bool {
+        if self.bounded {
+            return !has(known, self.tokens);
+        }
+        (self.firm & !known).count_ones() >= LEAST_FIRM
     }
 
     /// Whether a log type whose constant bytes bring these bits may be certain: they bring all
@@ -148,7 +165,7 @@ impl KindBits {
 }
 
 impl Sums {
-    /// The same with a slot.
+    /// What these slots and one more may bring in sum.
     fn with(self, slot: Slot) -> Sums
         ensures more { (kind : Kind) → Has (sum_at kind result) (sum_at kind self) }
         ensures slot { Has (sum_at slot.kind result) slot.bits }
@@ -288,8 +305,8 @@ fn unlisted_test(kinds: &KindBits, known: u8, first: usize) -> TypeTest
 }
 
 /// What is known of a log type that few messages have, where its constant bytes lack so many firm
-/// tokens. The other tokens are taken to stand there, and neither its slots nor its runs are asked: a
-/// row of it is told by the words that have those tokens.
+/// tokens, or any where words tell of numbers. The tokens that are not looked for are taken to stand
+/// there, and neither its slots nor its runs are asked: a row of it is told by its words.
 fn rare_test(
     tokens: &[Token],
     question: &Question<'_>,
@@ -304,8 +321,8 @@ fn rare_test(
     if lacks || number < COMMON_TYPES || !question.spares_rare() {
         return None;
     }
-    let known = gifts_of(tokens, question.firm, text);
-    if (question.firm & !known).count_ones() < LEAST_FIRM {
+    let known = gifts_of(tokens, question.rare_tokens(), text);
+    if !question.leaves_few(known) {
         return None;
     }
     Some(unlisted_test(&question.kinds, known, 0))

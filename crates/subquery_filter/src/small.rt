@@ -2,11 +2,12 @@
 ghost use Rattle.std.specs.Prelude.{◌≡◌, ◌<◌, ◌^◌, ℕ, List, IfOk, Some, length, slice_get};
 ghost use Rattle.std.specs.Fmt.{decimal, signed_decimal};
 ghost use Rattle.std.specs.Int.{cast_signed, w64};
-ghost use Rattle.subquery_filter.specs.Filter.{AreSmall, IsLeast, MarksOpen, TellsSmall};
+ghost use Rattle.subquery_filter.specs.Filter.{AreSmall, IsBound, IsLeast, MarksOpen, TellsSmall};
 ghost use Rattle.subquery_filter.specs.StepsFilter.{NoneBelow};
 ghost use Rattle.subquery_filter.specs.declared.token.Token.{Token};
 
 use crate::number_text::is_open_whole;
+use crate::numbers::{are_plain, has_open};
 use crate::slots::{MOST_SLOTS, Slot, has_kind};
 use crate::token::Token;
 use crate::tokens::open_marks;
@@ -20,11 +21,17 @@ const SMALL: u64 = 65_536;
 /// The least whole number of nineteen digits. The words of those below it are their values.
 const LONG: u64 = 1_000_000_000_000_000_000;
 
-/// What is told of whole numbers by their words. Of closed variables nothing is.
+/// Below this a bound tells too little: too many words are not below it, whatever they stand for.
+const LEAST_BOUND: u64 = 1_000_000;
+
+/// What is told of numbers by their words. Of closed variables nothing is.
 #[derive(Debug, Drop)]
 pub(crate) struct SmallNumbers {
-    /// No token stands in a number below this.
+    /// No token stands in a whole number whose word is below this.
     pub(crate) least: u64,
+    /// Nor in any number whose word is below this, a decimal or a whole one. It is 0 where that is
+    /// not told.
+    pub(crate) bound: u64,
     /// The bits of the first numbers, where they are asked.
     pub(crate) marks: Vec<u8>,
 }
@@ -65,6 +72,23 @@ fn least_of(tokens: &[Token]) -> u64
     least
 }
 
+/// A bound of the words of all numbers, by that of whole numbers. The digits of a decimal read as one
+/// number are no more than its word, but tell only of tokens that begin with no zero and have no
+/// point.
+fn bound_of(tokens: &[Token], least: u64) -> u64
+    ensures { IsLeast tokens.now least → IsBound tokens.now result }
+{
+    if least < LEAST_BOUND || !has_open(tokens) || !are_plain(tokens) {
+        return 0;
+    }
+    least
+}
+
+/// Whether words tell of numbers below a bound that no token is a part of them.
+pub(crate) fn has_bound(tokens: &[Token]) -> bool {
+    bound_of(tokens, least_of(tokens)) > 0
+}
+
 /// The bits of the tokens, but for closed variables, that stand in the text of a whole number.
 #[inline(never)]
 pub(crate) fn whole_marks(tokens: &[Token], word: u64) -> u8
@@ -75,7 +99,8 @@ pub(crate) fn whole_marks(tokens: &[Token], word: u64) -> u8
     open_marks(tokens, &digits[..len])
 }
 
-/// The same, where no token stands in one below a bound.
+/// The bits of the tokens, but for closed variables, that stand in the text of a whole number. None
+/// does below a bound.
 fn marks_from(tokens: &[Token], least: u64, word: u64) -> u8
     ensures { IsLeast tokens.now least
         → MarksOpen tokens.now (signed_decimal (cast_signed w64 word)) result }
@@ -107,13 +132,22 @@ pub(crate) fn small_needed(
     ensures { IfOk result (λ small. TellsSmall tokens.now small) }
 {
     let least = least_of(tokens);
+    let bound = bound_of(tokens, least);
     let needed = slots.len() >= MOST_SLOTS || has_kind(slots, Kind::Whole);
     if least >= SMALL || !needed {
         let marks = Vec::new(alloc);
-        return Ok(SmallNumbers { least, marks });
+        return Ok(SmallNumbers {
+            least,
+            bound,
+            marks,
+        });
     }
     let marks = mark_small(alloc, tokens, least)?;
-    Ok(SmallNumbers { least, marks })
+    Ok(SmallNumbers {
+        least,
+        bound,
+        marks,
+    })
 }
 
 /// The marks at a place of the table.
@@ -131,6 +165,7 @@ impl SmallNumbers {
     {
         SmallNumbers {
             least: 0,
+            bound: 0,
             marks: Vec::new(alloc),
         }
     }

@@ -24,7 +24,7 @@ returns-clause-asks g c = asks_ok c.args.plan.now (g.N.Names.types c.args.names.
           (subst (λ (l : List Token). AreTests c.args.plan.now l c.others-others.result types slots tests) looked (c.in_ok-test_types.ensures.tests c.all_bits.ensures.each (c.kind_bits.ensures coded)));
       needles = a.needles;
       told = told_none _ _ (search rules);
-      needs = needs_none _ _ _ _ _ _ (search rules);
+      needs = needs_none _ _ _ _ _ _ _ (search rules);
       brought = a.brought;
       numbers = a.numbers;
       small = subst (λ (l : List Token). TellsSmall l c.in_ok-small.small) looked c.in_ok-small.ensures;
@@ -55,7 +55,7 @@ returns-clause-filter g c = filters_ok c.args.plan.now (g.N.Names.types c.args.n
             (subst (λ (l : List Token). AreTests c.args.plan.now l c.others-others.result types slots tests) looked (c.in_ok-test_types.ensures.tests c.all_bits.ensures.each (c.kind_bits.ensures coded)));
         needles = a.needles;
         told = told_none _ _ (search rules);
-        needs = needs_none _ _ _ _ _ _ (search rules);
+        needs = needs_none _ _ _ _ _ _ _ (search rules);
         brought = a.brought;
         numbers = a.numbers;
         small = subst (λ (l : List Token). TellsSmall l c.in_ok-small.small) looked c.in_ok-small.ensures;

@@ -10,4 +10,4 @@ returns-then-not-has c = λ numbers verdicts there.
     let test = c.in-Some.test in
     let is : slice_get f.tests.items c.args.place ≡ Some test = search rules in
     let tried : test.verdict ≡ Tried = search rules in
-    (test, is, tried, lacks_bare f.tokens.items test f.stamped f.wanted c.args.bits numbers (c.has.ensures.no (search rules)))
+    (test, is, tried, lacks_bare f.tokens.items test f.stamped f.wanted f.small.bound c.args.bits numbers (c.has.ensures.no (search rules)))
