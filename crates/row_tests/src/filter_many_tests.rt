@@ -1,4 +1,5 @@
-//! Rows of so many log types that the slots of the last ones are not listed, or that less is asked of these.
+//! Rows of so many log types that the slots of the last ones are not listed, or that less is asked
+//! of these.
 use crate::books::Books;
 use crate::subquery_filter_tests::{is_told, may_match, plan_of, row_of};
 use std::alloc::{AllocError, Global};

@@ -126,8 +126,8 @@ const CASES: &[Case] = &[
     (b"*", &[(1, &[0]), (5, &[])], &[Stays, Stays]),
 ];
 
-/// The sign of a decimal. Its word has the digits read as one number, then how many there are less one,
-/// and how many of them stand behind the point less one.
+/// The sign of a decimal. Its word has the digits read as one number, then how many there are less
+/// one, and how many of them stand behind the point less one.
 const MINUS: u64 = MINUS_HALF - HALF;
 
 /// Numbers that a long token may be a part of: those with fewer digits are passed by their words.
@@ -352,8 +352,8 @@ fn rows_by_the_long_numbers_of_their_page(rt: HostRuntime) -> Result<(), Fail> {
     all_told(rt.alloc(), LONG)
 }
 
-/// The rows of a page: the log type of all of them, the word of most, the word of one, and that of the
-/// last.
+/// The rows of a page: the log type of all of them, the word of most, the word of one, and that of
+/// the last.
 type Rows = (u32, u64, u64, u64);
 
 /// Whether the page's only row with the word that counts stays, behind so many rows without.

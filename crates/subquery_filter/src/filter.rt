@@ -648,7 +648,8 @@ impl Filter {
         )
     }
 
-    /// What is known of a row of a page, as `verdict` tells it, with what goes along from row to row.
+    /// What is known of a row of a page, as `verdict` tells it, with what goes along from row to
+    /// row.
     #[inline]
     pub fn verdict_in(&self, row: RowRef<'_>, page: &mut PageTests) -> Verdict
         ensures told { IsPage self.now page.old

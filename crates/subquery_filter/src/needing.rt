@@ -29,8 +29,8 @@ const BLOCK: usize = 16;
 pub(crate) enum Need {
     /// None is matched.
     Never,
-    /// A variable that counts: its word is marked, a closed variable is stored as it is, or it may be
-    /// that of a number which an open token is a part of.
+    /// A variable that counts: its word is marked, a closed variable is stored as it is, or it may
+    /// be that of a number which an open token is a part of.
     Hit,
     /// Each row is asked.
     Open,
@@ -291,8 +291,8 @@ impl Filter {
         self.are_open(row.words)
     }
 
-    /// Whether no word counts that is below the bound of numbers: none is marked, and no token is a closed
-    /// variable.
+    /// Whether no word counts that is below the bound of numbers: none is marked, and no token is a
+    /// closed variable.
     #[inline]
     fn is_by_bound(&self) -> bool
         ensures { IsTrue result → (word : ℕ) → word < self.now.small.bound
@@ -322,8 +322,8 @@ impl Filter {
         at
     }
 
-    /// The next place of a word that counts. Words before it are asked by blocks, or one by one by the
-    /// bound alone.
+    /// The next place of a word that counts. Words before it are asked by blocks, or one by one by
+    /// the bound alone.
     // A function of its own, so that its loop has the registers.
     #[inline(never)]
     fn next_counted(&self, words: &[u64], from: usize) -> usize

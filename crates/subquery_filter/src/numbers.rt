@@ -183,8 +183,8 @@ fn number_in(word: u64) -> u64
     word >> 8 & NUMBER
 }
 
-/// The bits of the tokens, but for closed variables, that stand in the text of a decimal: by what is
-/// told of its digits read as one number, where that tells enough.
+/// The bits of the tokens, but for closed variables, that stand in the text of a decimal: by what
+/// is told of its digits read as one number, where that tells enough.
 #[inline]
 fn open_decimal(tokens: &[Token], small: &SmallNumbers, word: u64) -> u8
     ensures { TellsSmall tokens.now small.now → (text : List ℕ) → Codes text (DecimalWord word)

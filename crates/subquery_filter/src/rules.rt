@@ -39,9 +39,9 @@ pub fn barren<N: Names>(head: &Head, plan: &Plan, range: &Range, names: &N) -> b
         || lacks_types(plan, head.types.as_slice(), names)
 }
 
-/// Whether the segment is barren, as [`barren`] tells it, where the numbers of the needed words were
-/// found before: for each needed word of the plan that is a variable, at its place, its number, and
-/// none where it is no word.
+/// Whether the segment is barren, as [`barren`] tells it, where the numbers of the needed words
+/// were found before: for each needed word of the plan that is a variable, at its place, its
+/// number, and none where it is no word.
 ///
 /// Costs a binary search for each needed variable, and then a walk over the texts of the head's log
 /// types up to the first that has all.

@@ -50,7 +50,8 @@ pub(crate) struct Question<'a> {
     /// The bits of all runs of the pattern, and of those that some stamp may have.
     pub(crate) runs: u8,
     pub(crate) stamped: u8,
-    /// Whether words tell of most numbers that no token is a part of them, whatever slots they are in.
+    /// Whether words tell of most numbers that no token is a part of them, whatever slots they are
+    /// in.
     pub(crate) bounded: bool,
 }
 
@@ -109,9 +110,9 @@ impl Question<'_> {
         !has(self.stamped, alone) || (alone != 0 && has(alone, self.runs))
     }
 
-    /// Whether less may be asked of log types that few messages have: words tell of numbers, or stamps
-    /// may have all runs, so that no log type is rejected by those that it leaves to them, and there are
-    /// so many firm tokens.
+    /// Whether less may be asked of log types that few messages have: words tell of numbers, or
+    /// stamps may have all runs, so that no log type is rejected by those that it leaves to them,
+    /// and there are so many firm tokens.
     #[inline]
     fn spares_rare(&self) -> bool {
         self.bounded || (has(self.stamped, self.runs) && self.firm.count_ones() >= LEAST_FIRM)
@@ -123,7 +124,8 @@ impl Question<'_> {
         if self.bounded { self.others } else { self.firm }
     }
 
-    /// Whether few rows are left by the words of such a log type whose constant bytes bring these bits.
+    /// Whether few rows are left by the words of such a log type whose constant bytes bring these
+    /// bits.
     #[inline]
     fn leaves_few(&self, known: u8) -> bool {
         if self.bounded {
@@ -305,8 +307,8 @@ fn unlisted_test(kinds: &KindBits, known: u8, first: usize) -> TypeTest
 }
 
 /// What is known of a log type that few messages have, where its constant bytes lack so many firm
-/// tokens, or any where words tell of numbers. The tokens that are not looked for are taken to stand
-/// there, and neither its slots nor its runs are asked: a row of it is told by its words.
+/// tokens, or any where words tell of numbers. The tokens that are not looked for are taken to
+/// stand there, and neither its slots nor its runs are asked: a row of it is told by its words.
 fn rare_test(
     tokens: &[Token],
     question: &Question<'_>,

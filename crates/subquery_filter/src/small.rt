@@ -72,9 +72,9 @@ fn least_of(tokens: &[Token]) -> u64
     least
 }
 
-/// A bound of the words of all numbers, by that of whole numbers. The digits of a decimal read as one
-/// number are no more than its word, but tell only of tokens that begin with no zero and have no
-/// point.
+/// A bound of the words of all numbers, by that of whole numbers. The digits of a decimal read as
+/// one number are no more than its word, but tell only of tokens that begin with no zero and have
+/// no point.
 fn bound_of(tokens: &[Token], least: u64) -> u64
     ensures { IsLeast tokens.now least → IsBound tokens.now result }
 {

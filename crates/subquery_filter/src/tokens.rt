@@ -249,8 +249,8 @@ fn gift_of(token: &Token, text: &[u8]) -> u8
     }
 }
 
-/// The bit of a token where it stands among the constant bytes of a log type, or is not among others:
-/// then it is taken to stand there.
+/// The bit of a token where it stands among the constant bytes of a log type, or is not among
+/// others: then it is taken to stand there.
 fn gift_beside(token: &Token, others: u8, text: &[u8]) -> u8
     ensures { IsTypeText text.now → StandsInType token.now.matcher.items text.now
         → result ≡ token.now.bit }
