@@ -238,7 +238,7 @@ fn more_open_tokens_than_planned(rt: HostRuntime) -> Result<(), Fail> {
 
 /// A pattern over rows, what is printed, what is counted, and how many calls of the disk there are.
 /// Three segments have rows, and the head of each is read by one call. Where the pattern has a token,
-/// each of the three records of words is read by one. The log types of a page are read by one, the page
+/// each of the three records of words is read by one. The log types of a segment are read by one, its page
 /// then by five, and the record of the word that its row has by one more.
 const OF_ROWS: &[(&[u8], &[u8], Counts, u64)] = &[
     (b" task_2 ", b"a.log:2:run task_2 x\n", (1, 1, 1, 4), 13),
@@ -472,14 +472,15 @@ fn calls_until_printed<R: Threads + Sync>(
 
 #[test]
 fn a_page_is_printed_before_the_next_is_read(rt: HostRuntime) -> Result<(), Fail> {
-    // One call reads the head, one the log types of the page, and five the page.
-    assert!(rt; calls_until_printed(&rt, 1, rt.alloc(), 7)?);
+    // One call reads the head, and five the page. No archive has so many rows in a segment, so their log
+    // types are not read.
+    assert!(rt; calls_until_printed(&rt, 1, rt.alloc(), 6)?);
     Ok(())
 }
 
-/// `LETTERS` with 5,000 rows, which are two pages: all are its first message but the last one, which is its
-/// second. A byte is this one.
-fn two_pages(alloc: Global, at: usize, byte: u8) -> Result<Vec<u8>, AllocError> {
+/// `LETTERS` with 5,000 rows, which are two pages: all are its first message but the one at a row, which is
+/// its second. A byte is this one.
+fn two_pages(alloc: Global, row: usize, at: usize, byte: u8) -> Result<Vec<u8>, AllocError> {
     let changes = [
         (26, 0x10),
         (101, 0x3D),
@@ -488,43 +489,60 @@ fn two_pages(alloc: Global, at: usize, byte: u8) -> Result<Vec<u8>, AllocError> 
         (121, 0x88),
         (122, 0x13),
         (184, 0),
-        (65_158, 1),
+        (45_162 + 4 * row, 1),
         (at, byte),
     ];
     grown(alloc, &LETTERS, 85_163, &changes)
 }
 
-/// How many workers there are, a pattern, how many messages are found, and how many calls of the disk there
-/// are. One reads the head, and one the log types of a page. Of the first page the log type has no `x`: it is
-/// passed by one more. A page that is taken is read by five.
-const OF_TYPES: &[(u32, &[u8], u64, u64)] = &[
-    (1, b"x", 1, 9),
-    (2, b"x", 1, 9),
-    (1, b"a", 5_000, 13),
-    (1, b"y", 0, 1),
+/// How many workers there are, the row of the second message, a pattern, how many messages are found, and how
+/// many calls of the disk there are. One reads the head, and one the log types of the segment. A page whose
+/// log types have no `x` is passed by one more, and by none where no page behind it has one. A page that is
+/// taken is read by five.
+const OF_TYPES: &[(u32, usize, &[u8], u64, u64)] = &[
+    (1, 4_999, b"x", 1, 8),
+    (2, 4_999, b"x", 1, 8),
+    (1, 0, b"x", 1, 7),
+    (1, 4_095, b"x", 1, 7),
+    (1, 4_096, b"x", 1, 8),
+    (1, 4_999, b"a", 5_000, 12),
+    (1, 4_999, b"y", 0, 1),
 ];
 
-/// Whether with so many workers a search of the two pages finds so many messages, and calls the disk so
-/// often.
+/// Whether with so many workers a search of the bytes finds so many messages in one segment, and calls the
+/// disk so often.
 fn finds_by_calls<R: Threads + Sync>(
     rt: &R,
     workers: u32,
     alloc: Global,
+    bytes: &[u8],
     text: &[u8],
     found: u64,
     calls: u64,
 ) -> Result<bool, AllocError> {
-    let bytes = two_pages(alloc, 0, 67)?;
-    let outcome = searched(rt, workers, alloc, bytes.as_slice(), text, ALL, 1_000_000)?;
+    let outcome = searched(rt, workers, alloc, bytes, text, ALL, 1_000_000)?;
     Ok(counts_are(&outcome.answer, (found, found, 1, 1)) && outcome.calls == calls)
 }
 
 #[test]
 fn a_page_that_its_log_types_rule_out_is_passed(rt: HostRuntime) -> Result<(), Fail> {
-    for &(workers, text, found, calls) in OF_TYPES {
-        let well = finds_by_calls(&rt, workers, rt.alloc(), text, found, calls)?;
-        assert!(rt; well, "{workers} {text:?}");
+    for &(workers, row, text, found, calls) in OF_TYPES {
+        let bytes = two_pages(rt.alloc(), row, 0, 67)?;
+        let bytes = bytes.as_slice();
+        let well = finds_by_calls(&rt, workers, rt.alloc(), bytes, text, found, calls)?;
+        assert!(rt; well, "{workers} {row} {text:?}");
     }
+    Ok(())
+}
+
+#[test]
+fn of_a_segment_that_its_log_types_rule_out_nothing_else_is_read(
+    rt: HostRuntime,
+) -> Result<(), Fail> {
+    // The head lists the log type with `x`, and no row has it. One call reads the head, and one the log types.
+    let bytes = two_pages(rt.alloc(), 4_999, 65_158, 0)?;
+    let well = finds_by_calls(&rt, 1, rt.alloc(), bytes.as_slice(), b"x", 0, 2)?;
+    assert!(rt; well);
     Ok(())
 }
 
@@ -541,7 +559,7 @@ const OF_PASSED: &[(usize, &[u8], bool)] = &[
 #[test]
 fn damage_in_a_page_that_is_passed(rt: HostRuntime) -> Result<(), Fail> {
     for &(at, text, told) in OF_PASSED {
-        let bytes = two_pages(rt.alloc(), at, 200)?;
+        let bytes = two_pages(rt.alloc(), 4_999, at, 200)?;
         let outcome = searched(&rt, 1, rt.alloc(), bytes.as_slice(), text, ALL, 1_000_000)?;
         let damaged = outcome.answer == Err(SearchRefusal::Damaged);
         assert!(rt; damaged == told, "{at} {text:?}");

@@ -126,6 +126,48 @@ fn a_page_is_passed_by_one_read(rt: HostRuntime) -> Result<(), Fail> {
     Ok(())
 }
 
+/// The log types of all rows of a disk, and after how many reads they are there, for a caller that counts
+/// nothing.
+fn types_of<L: Ledger>(
+    alloc: Global,
+    head: &Head,
+    disk: &mut MemDisk,
+    blank: Blank,
+) -> Result<Option<(Vec<u32>, usize)>, PageRefusal>
+    requires { OpensFor blank L.name L.parts }
+{
+    let mut steps: Steps<L> = Steps::new(blank);
+    let Some(pages) = SegmentPages::open(AT as u64, LEN as u64, head, &mut steps) else {
+        return Ok(None);
+    };
+    let mut buffer = Vec::new(alloc);
+    let mut types = Vec::new(alloc);
+    if !pages.has_next() {
+        return Ok(None);
+    }
+    pages.read_all_types(disk, &mut buffer, &mut types)?;
+    Ok(Some((types, disk.calls())))
+}
+
+/// Whether the log types of all rows of the disk are its own, after so many reads.
+fn are_types_by(alloc: Global, calls: usize) -> Result<bool, AllocError> {
+    let Ok(head) = read_head(alloc, &TWO_ROWS[..HEAD_LEN]) else {
+        return Ok(false);
+    };
+    let mut disk = disk(alloc, &TWO_ROWS, &[])?;
+    let Ok(Some((types, took))) = types_of::<Brand>(alloc, &head, &mut disk, Blank::new(1)) else {
+        return Ok(false);
+    };
+    Ok(types.as_slice() == [5, 2].as_slice() && took == calls)
+}
+
+#[test]
+fn all_log_types_are_read_by_one_read(rt: HostRuntime) -> Result<(), Fail> {
+    let well = are_types_by(rt.alloc(), 1)?;
+    assert!(rt; well);
+    Ok(())
+}
+
 #[test]
 fn laws_hold() {
     segments_are_held();

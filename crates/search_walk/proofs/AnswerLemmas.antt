@@ -1,5 +1,5 @@
 -- What holds by an answer.
-use Rattle.std.specs.Prelude.{Result, Ok, Err, IfOk, OnErr, OnOk}
+use Rattle.std.specs.Prelude.{Option, Some, None, Result, Ok, Err, IfOk, IfSome, OnErr, OnOk}
 
 pub on_ok_to : {T E : Type 0} (r : Result T E) (P Q : Type 0) → (P → Q) → OnOk r P → OnOk r Q
 on_ok_to (Ok t) P Q step p = step p
@@ -16,3 +16,7 @@ on_err (Err e) P p = p
 pub if_ok_to : {T E : Type 0} (r : Result T E) (P Q : T → Type 0) → ((t : T) → P t → Q t) → IfOk r P → IfOk r Q
 if_ok_to (Ok t) P Q step has = step t has
 if_ok_to (Err e) P Q step has = tt
+
+pub if_some_to : {T : Type 0} (o : Option T) (P Q : T → Type 0) → ((t : T) → P t → Q t) → IfSome o P → IfSome o Q
+if_some_to (Some t) P Q step has = step t has
+if_some_to None P Q step has = tt

@@ -1,5 +1,5 @@
 -- What was decided of rows before they are searched, and that the words are held by which they are written.
-use Rattle.std.specs.Prelude.{◌≡◌, ◌≢◌, ℕ, List}
+use Rattle.std.specs.Prelude.{◌≡◌, ◌≢◌, ◌++◌, ℕ, List, All}
 use Rattle.std.specs.List.{AllZip}
 use Rattle.column_store.specs.Range.{Holds}
 use Rattle.column_store.specs.declared.row.Row.{Row}
@@ -27,6 +27,12 @@ IsDecided n q row Tried = Holds q.range row.pattern row.moment
 -- no message of a row of this log type is expanded, whatever else the row has
 abbrev pub IsRuledOut : Named → Asked → ℕ → Type 0
 IsRuledOut n q t = (row : Row) → row.log_type ≡ t → IsDecided n q row Rejected
+
+-- of these log types all behind the first ones are ruled out
+pub record KeepsFirst (n : Named) (q : Asked) (types kept : List ℕ) : Type 0 where
+  pub others : List ℕ
+  pub all : types ≡ kept ++ others
+  pub ruled : IsTold n → All (IsRuledOut n q) others
 
 -- what is told of each row of a page is right, where the words stand on the disk
 abbrev pub AreDecided : Named → Asked → List Row → List Verdict → Type 0

@@ -1,9 +1,9 @@
 -- What a walk over pages and segments has done. What took the pages tells of the messages that it got past by a word on them,
 -- and by another of those among which it stopped.
-use Rattle.std.specs.Prelude.{◌≡◌, ◌<◌, ◌≤◌, ◌+◌, ℕ, List, [], ◌++◌, length, Option, Some, None}
+use Rattle.std.specs.Prelude.{◌≡◌, ◌<◌, ◌≤◌, ◌+◌, ℕ, List, [], ◌++◌, length, drop, Option, Some, None}
 use Rattle.column_store.specs.declared.row.Row.{Row}
 use Rattle.segment_format.specs.Pages.{page_rows}
-use Rattle.segment_pages.specs.Paged.{HoldsLeft, Paged, paged_after}
+use Rattle.segment_pages.specs.Paged.{HoldsLeft, IsLater, OfRows, Paged, paged_after, types_in}
 use Rattle.archive_open.specs.declared.files.FileEntry.{FileEntry}
 use Rattle.archive_open.specs.declared.segments.SegmentPlace.{SegmentPlace}
 use Rattle.archive_places.specs.declared.front.SegmentFront.{SegmentFront}
@@ -12,6 +12,7 @@ use Rattle.search_meaning.specs.Scan.{Asked, IsFound, IsTried}
 use Rattle.search_walk.specs.Held.{AreRowsOf, Named, OfSegments}
 use Rattle.search_meaning.specs.Opened.{AreOpened}
 use Rattle.search_walk.specs.Opened.{OfFronts}
+use Rattle.search_walk.specs.Ready.{KeepsFirst}
 
 -- ---- pages
 
@@ -54,7 +55,15 @@ PastTold Reaches (Some bytes) start n name number now count =
 abbrev pub AreOver : Named → Asked → List Placed → Type 0
 AreOver n q all = Picks (λ p. IsFound n.version q p.message) all [] × Picks (λ p. IsTried n.version q p.message) all []
 
--- nothing was passed, or a page of so many rows, with no message that is found or expanded
+-- whatever rows the bytes hold from a page on, their log types behind these are all ruled out
+abbrev pub TellLeft : Option (List ℕ) → Paged → Named → Asked → List ℕ → Type 0
+TellLeft seen p n q kept = OfRows seen p (λ rows. KeepsFirst n q (types_in rows) kept)
+
+-- the same from any later page of the segment on, of those behind so many
+abbrev pub TellAhead : Option (List ℕ) → Paged → Named → Asked → List ℕ → Type 0
+TellAhead seen p n q kept = (later : Paged) (count : ℕ) → IsLater p later count → TellLeft seen later n q (drop count kept)
+
+-- nothing was passed, or pages of so many rows, with no message that is found or expanded
 abbrev pub WentOver : Option (List ℕ) → Paged → Named → Asked → Paged → Option ℕ → Type 0
 WentOver seen old n q new None = new ≡ old
 WentOver seen old n q new (Some count) = PagesGone old new count

@@ -180,8 +180,8 @@ impl<'q, D: Disk> Context<'q, D> {
         self.filter
     }
 
-    /// The same as `decide`, with what goes along from row to row of a page. The filter is the one that is
-    /// lent on.
+    /// What is told of a row by its moment, and by its numbers alone, with what goes along from row to row
+    /// of a page. The filter is the one that is lent on.
     #[inline]
     pub fn decide_in(&self, filter: &Filter, row: RowRef<'_>, page: &mut PageTests) -> Verdict
         ensures decided { IsPage filter.now page.old → (IsTold self.now.names
@@ -199,7 +199,8 @@ impl<'q, D: Disk> Context<'q, D> {
         filter.verdict_in(row, page)
     }
 
-    /// The same of the row at a place of a page, of which it may be known that it is rejected.
+    /// What is told of the row at a place of a page by its moment, and by its numbers alone. It may be known
+    /// already that it is rejected.
     #[inline]
     pub fn decide_at(
         &self,

@@ -1,62 +1,55 @@
-use Rattle.std.proofs.Common.{◌<◌, [], arith, rules, refl}
-use Rattle.segment_pages.proofs.PageLemmas.{none_left}
+use Rattle.std.proofs.Common.{[], refl, rules, subst, sym, ◌≡◌}
 use Rattle.search_walk.specs.Held.{Named}
-use Rattle.search_walk.proofs.AnswerLemmas.{on_err}
-use Rattle.search_walk.proofs.PageLemmas.{pages_first, pages_next, pages_reads, past_damaged, past_end, past_stops}
+use Rattle.search_walk.specs.PagesRead.{IsOfPage}
+use Rattle.printed_lines.specs.Lines.{numbered}
+use Rattle.search_walk.proofs.AnswerLemmas.{on_err, on_err_to, on_ok_to}
+use Rattle.search_walk.proofs.PageLemmas.{left_all}
+use Rattle.search_walk.proofs.PagesReadLemmas.{columns_such, such_on}
+use Rattle.search_walk.proofs.PassLemmas.{here_left, known_ahead}
 use Rattle.search_walk.proofs.paging.read_pages.Goals as goal
 
-pub loop-pages-init : goal.loop-pages-init
-loop-pages-init g c =
+pub returns-in_err-told-clause-reads : goal.returns-in_err-told-clause-reads
+returns-in_err-told-clause-reads g c = columns_such c.args.context.now.names c.args.pages (g.D.Disk.state c.args.disk.now) (g.D.Disk.state c.read_ahead.new.disk) c.read_ahead.ensures.reads
+
+pub returns-in_err-told-clause-stopped : goal.returns-in_err-told-clause-stopped
+returns-in_err-told-clause-stopped g c =
     let n : Named = c.args.context.now.names in
     let q = c.args.context.now.query in
     let w = c.args.work.now in
-    (pages_first (g.W.TakesPages.reaches w w n q) (g.D.Disk.state c.args.disk.now) c.args.pages n c.args.label.name.now c.args.label.number (g.met.W.TakesPages.passes_over w n q [] refl refl) c.requires.first, refl, refl, c.requires.served)
-
-pub returns-in_err-rows-clause-reads : goal.returns-in_err-rows-clause-reads
-returns-in_err-rows-clause-reads g c = pages_reads _ _ _ _ _ c.args.pages c.loop-pages.pages _ c.args.label.name.now c.args.label.number c.loop-pages.at c.loop-pages.invariant.0 c.take_next.ensures.reads
-
-pub returns-in_err-rows-clause-stopped : goal.returns-in_err-rows-clause-stopped
-returns-in_err-rows-clause-stopped g c =
-    let n : Named = c.args.context.now.names in
-    let q = c.args.context.now.query in
-    let a = c.args.work.now in
-    let b = c.loop-pages.work in
-    let d = c.take_next.new.work in
     on_err c.from_residual.result _
-    (past_stops (g.W.TakesPages.reaches a b n q) (g.W.TakesPages.halts b d n q) (g.W.TakesPages.halts a d n q) _ _ c.args.pages c.loop-pages.pages n c.args.label.name.now c.args.label.number c.loop-pages.at c.loop-pages.pages.pages.row
-    (λ xs ys f h. g.met.W.TakesPages.stops_behind a b d n q xs ys f h)
-    c.loop-pages.invariant.0.reads.rests.seen c.loop-pages.invariant.0.place c.loop-pages.invariant.0.past c.in_err-rows.ensures.stopped)
+    (left_all (g.W.TakesPages.halts w w n q) (g.D.Disk.state c.args.disk.now).seen c.args.pages n c.args.label.name.now c.args.label.number (λ xs. g.met.W.TakesPages.stops_within w w n q [] xs (g.met.W.TakesPages.stops_here w n q)))
 
-pub loop-pages-preserved : goal.loop-pages-preserved
-loop-pages-preserved g c =
+pub take_pages-requires-clause-known : goal.take_pages-requires-clause-known
+take_pages-requires-clause-known g c =
+    known_ahead c.known_of-known.result (λ types. types.now) _ (g.D.Disk.state c.args.disk.now).seen (g.D.Disk.state c.read_ahead.new.disk).seen c.args.pages c.args.context.now.names c.args.context.now.query _ _ c.read_ahead.ensures.reads.rests.seen
+    c.as_slice.ensures.value c.known_of-known.ensures.told c.known_of-known.ensures.kept c.in_ok-told.ensures.told
+
+pub returns-clause-reads : goal.returns-clause-reads
+returns-clause-reads g c =
     let n : Named = c.args.context.now.names in
-    let q = c.args.context.now.query in
-    let a = c.args.work.now in
-    let b = c.loop-pages.work in
-    let d = c.take_next.new.work in (
-      pages_next (g.W.TakesPages.reaches a b n q) (g.W.TakesPages.reaches b d n q) (g.W.TakesPages.reaches a d n q) _ (g.D.Disk.state c.loop-pages.disk) (g.D.Disk.state c.take_next.new.disk) c.args.pages c.loop-pages.pages c.take_next.new.pages n
-          c.args.label.name.now c.args.label.number c.loop-pages.at _ c.in_ok-rows.rows (λ xs ys f r. g.met.W.TakesPages.goes_on a b d n q xs ys f r)
-          c.loop-pages.invariant.0 c.take_next.ensures.reads (search rules) c.in_ok-rows.ensures.gone (search rules) c.in_ok-rows.ensures.done,
-      search rules,
-      search rules,
-      search rules,
-    )
+    such_on (IsOfPage n c.args.pages) (g.D.Disk.state c.args.disk.now) (g.D.Disk.state c.read_ahead.new.disk) (g.D.Disk.state c.take_pages.new.disk)
+    (columns_such n c.args.pages (g.D.Disk.state c.args.disk.now) (g.D.Disk.state c.read_ahead.new.disk) c.read_ahead.ensures.reads) c.take_pages.ensures.reads
 
 pub returns-clause-done : goal.returns-clause-done
 returns-clause-done g c =
-    past_end (g.W.TakesPages.reaches c.args.work.now c.loop-pages.work c.args.context.now.names c.args.context.now.query) _ c.args.pages c.loop-pages.pages _ c.args.label.name.now c.args.label.number c.loop-pages.pages.pages.row none_left (search rules)
-    c.loop-pages.invariant.0.past
-
-pub returns-in_err-rows-clause-damaged : goal.returns-in_err-rows-clause-damaged
-returns-in_err-rows-clause-damaged g c = λ is stands.
     let n : Named = c.args.context.now.names in
     let q = c.args.context.now.query in
-    let a = c.args.work.now in
-    let b = c.loop-pages.work in
-    past_damaged (g.W.TakesPages.reaches a b n q) (g.W.TakesPages.stands b n) _ _ c.args.pages c.loop-pages.pages n c.args.label.name.now c.args.label.number c.loop-pages.pages.pages.row (λ xs f. g.met.W.TakesPages.stands_on a b n q xs f stands)
-    c.loop-pages.invariant.0.reads.rests.seen c.loop-pages.invariant.0.past (c.in_err-rows.ensures.damaged (search rules))
+    let w = c.args.work.now in
+    let d = c.take_pages.new.work in
+    on_ok_to c.take_pages.result _ _
+    (here_left (λ messages. g.W.TakesPages.reaches w d n q (numbered c.args.label.name.now c.args.label.number messages)) (g.D.Disk.state c.args.disk.now).seen (g.D.Disk.state c.read_ahead.new.disk).seen c.args.pages c.args.pages n
+    c.read_ahead.ensures.reads.rests.seen refl) c.take_pages.ensures.done
 
-pub take_next-requires-clause-left : goal.take_next-requires-clause-left
-take_next-requires-clause-left g c =
-    let page : c.loop-pages.pages.pages.row < c.loop-pages.pages.pages.rows = search rules in
-    record { page = page; fits = omega (arith, page, c.loop-pages.invariant.0.place, c.loop-pages.invariant.0.same.2, c.requires.small) }
+pub returns-clause-stopped : goal.returns-clause-stopped
+returns-clause-stopped g c =
+    let n : Named = c.args.context.now.names in
+    let q = c.args.context.now.query in
+    let w = c.args.work.now in
+    let d = c.take_pages.new.work in
+    on_err_to c.take_pages.result _ _
+    (here_left (λ messages. g.W.TakesPages.halts w d n q (numbered c.args.label.name.now c.args.label.number messages)) (g.D.Disk.state c.args.disk.now).seen (g.D.Disk.state c.read_ahead.new.disk).seen c.args.pages c.args.pages n
+    c.read_ahead.ensures.reads.rests.seen refl) c.take_pages.ensures.stopped
+
+pub returns-clause-damaged : goal.returns-clause-damaged
+returns-clause-damaged g c = λ is stands.
+    here_left (λ _. ⊥) (g.D.Disk.state c.args.disk.now).seen (g.D.Disk.state c.read_ahead.new.disk).seen c.args.pages c.args.pages c.args.context.now.names c.read_ahead.ensures.reads.rests.seen refl (c.take_pages.ensures.damaged is stands)

@@ -1,6 +1,6 @@
 use Rattle.std.proofs.Common.{◌≡◌, ◌-◌}
 use Rattle.search_walk.specs.StepsPast.{PagesPast}
-use Rattle.search_walk.proofs.paging.read_pages.Given as goal
+use Rattle.search_walk.proofs.paging.take_pages.Given as goal
 
 abbrev pub invariant-loop-pages : goal.invariant-loop-pages
 invariant-loop-pages g l =
