@@ -497,13 +497,14 @@ fn two_pages(alloc: Global, row: usize, at: usize, byte: u8) -> Result<Vec<u8>, 
 
 /// How many workers there are, the row of the second message, a pattern, how many messages are found, and how
 /// many calls of the disk there are. One reads the head, and one the log types of the segment. A page whose
-/// log types have no `x` is passed by one more, and by none where no page behind it has one. A page that is
+/// log types have no `x` is passed by one more, and by none where the last 4,096 rows have none. A page that is
 /// taken is read by five.
 const OF_TYPES: &[(u32, usize, &[u8], u64, u64)] = &[
     (1, 4_999, b"x", 1, 8),
     (2, 4_999, b"x", 1, 8),
     (1, 0, b"x", 1, 7),
-    (1, 4_095, b"x", 1, 7),
+    (1, 903, b"x", 1, 7),
+    (1, 4_095, b"x", 1, 8),
     (1, 4_096, b"x", 1, 8),
     (1, 4_999, b"a", 5_000, 12),
     (1, 4_999, b"y", 0, 1),

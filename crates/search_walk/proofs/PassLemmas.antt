@@ -144,13 +144,17 @@ rest_behind None old new count law size none = tt
 rest_behind (Some bytes) old new count law size none = λ rows holds.
     subst (λ (l : List Row). HoldsLeft new bytes l) (sym (drop_of_length-le rows (omega (arith, size, law old bytes rows holds)))) (none bytes rows holds)
 
+no_length : (types : List ℕ) → length types ≡ 0 → types ≡ []
+no_length [] none = refl
+no_length (t ∷ types) none = absurd (omega (arith, none))
+
 -- all pages that are left are passed
-pub rest_over : (seen : Option (List ℕ)) (old new : Paged) (n : Named) (q : Asked) (left : List ℕ) (count : ℕ) → WideIsWider → LeftAreCounted → old.pages.row < old.pages.rows → TellLeft seen old n q left → left ≡ [] → new ≡ paged_end old
+pub rest_over : (seen : Option (List ℕ)) (old new : Paged) (n : Named) (q : Asked) (left : List ℕ) (count : ℕ) → WideIsWider → LeftAreCounted → old.pages.row < old.pages.rows → TellLeft seen old n q left → length left ≡ 0 → new ≡ paged_end old
     → ((bytes : List ℕ) (rows : List Row) → HoldsLeft old bytes rows → HoldsLeft new bytes []) → count ≡ old.pages.rows - old.pages.row → WentOver seen old n q new (Some count)
 rest_over seen old new n q left count wider law page tell none end nothing size =
     let row : new.pages.row ≡ old.pages.rows = ap (λ (p : Paged). p.pages.row) end in
     let rows : new.pages.rows ≡ old.pages.rows = ap (λ (p : Paged). p.pages.rows) end in
-    let no_types : All (IsRuledOut n q) (take count left) = All-take (IsRuledOut n q) count left (subst (All (IsRuledOut n q)) (sym none) (All-nil (IsRuledOut n q))) in (
+    let no_types : All (IsRuledOut n q) (take count left) = All-take (IsRuledOut n q) count left (subst (All (IsRuledOut n q)) (sym (no_length left none)) (All-nil (IsRuledOut n q))) in (
       record {
         at = ap (λ (p : Paged). p.at) end;
         start = ap (λ (p : Paged). p.pages.start) end;

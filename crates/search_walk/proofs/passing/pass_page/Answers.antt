@@ -21,5 +21,5 @@ returns-clause-over g c =
     let n : Named = c.args.context.now.names in
     let q = c.args.context.now.query in
     let after = c.in_ok-rows.ensures.after in
-    page_over _ _ c.args.pages.now c.pass_page.new.self n q c.args.left.now after.0 c.page_rows.result c.in_ok-rows.rows c.wide_is_wider.ensures.wider c.left_are_counted.ensures (search rules) c.requires.page c.page_rows.ensures.is c.requires.told
+    page_over _ _ c.args.pages.now c.pass_page.new.self n q c.args.left.now after.0 c.page_rows-count.result c.in_ok-rows.rows c.wide_is_wider.ensures.wider c.left_are_counted.ensures (search rules) c.requires.page c.page_rows-count.ensures.is c.requires.told
     (λ told. subst (All (IsRuledOut n q)) c.first_of.ensures (c.rules_out.ensures (search rules) told)) c.in_ok-rows.ensures.behind after.1 c.in_ok-rows.ensures.count
