@@ -16,11 +16,9 @@ use crate::page_taking::count_segments;
 use crate::table::RowTable;
 use archive_places::{Places, heads_stand, words_stand};
 use log_seams::Disk;
-use row_codec::Layouts;
-use search_walk::{Context, LAID_TYPES, Query, SearchRefusal, ask_words};
+use search_walk::{Prepared, Query, SearchRefusal};
 use std::sync::ledger::Ledger;
 use step_count::Steps;
-use subquery_filter::Filter;
 use word_places::HeldWords;
 
 /// What a count has gone over.
@@ -71,27 +69,10 @@ pub(crate) fn count_archive<D: Disk, T: RowTable, L: Ledger, M: Ledger>(
     // A journal's words and heads stand where its places say.
     words_stand();
     heads_stand();
-    let Places {
-        header,
-        types,
-        words,
-        files,
-        segments,
-        entries: _,
-        end: _,
-    } = places;
-    let alloc = counter.alloc();
-    let records = words.as_slice();
-    let mut held = HeldWords::new(alloc, types, header.version, records)?;
-    let layouts = Layouts::front(alloc, &held, LAID_TYPES)?;
-    let plan = query.plan();
-    let filter = Filter::begin(alloc, plan)?;
-    let told = ask_words(alloc, query, filter, records, disk)?;
-    let asked = told.filter.ask(alloc, plan, &held)?;
-    let names = files.as_slice();
-    let found = told.found.as_slice();
-    let context = Context::new(query, &layouts, &asked, names, found, &held, disk);
-    let fronts = segments.as_slice();
+    let prepared = Prepared::of(counter.alloc(), query, places, disk)?;
+    let Prepared { mut held, archive } = prepared;
+    let context = archive.context(query, &held, disk);
+    let fronts = archive.segments.as_slice();
     let count = count_segments(&context, &mut held, fronts, disk, counter, opened, expanded)?;
     Ok(Gone {
         held,

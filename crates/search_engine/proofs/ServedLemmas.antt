@@ -1,16 +1,14 @@
 -- Pages that wait, and the words that are held for them.
-use Rattle.std.proofs.Common.{◌≡◌, ◌<◌, ◌∙◌, ℕ, List, [], ◌∷◌, ◌++◌, length, get_or, map, Option, All, ap, sym, subst}
+use Rattle.std.proofs.Common.{◌≡◌, ◌<◌, ◌∙◌, ℕ, List, [], ◌∷◌, ◌++◌, length, get_or, All, ap, sym, subst}
 use Rattle.std.proofs.lemmas.List.Elements.{All-cons, All-head, All-nil, All-tail}
-use Rattle.word_places.specs.declared.place.WordsPlace.{WordsPlace}
-use Rattle.word_places.specs.Held.{Grow, HeldNames, unread}
-use Rattle.word_places.specs.Places.{AreInOrder}
+use Rattle.word_places.specs.Held.{Grow, HeldNames}
 use Rattle.search_meaning.specs.Scan.{Asked}
-use Rattle.search_walk.specs.Held.{Named, named}
+use Rattle.search_walk.specs.Held.{Named}
 use Rattle.search_engine.specs.Served.{AreReadyPages, IsServed}
 use Rattle.search_walk.specs.Ready.{IsReadyPage, Serves}
 use Rattle.search_engine.specs.Waiting.{IsWorked, Page, Slotted, pages_of}
 use Rattle.search_engine.specs.Worked.{IsWorkedBy}
-use Rattle.search_walk.proofs.ReadyLemmas.{serves_first, rows_grow}
+use Rattle.search_walk.proofs.ReadyLemmas.{rows_grow}
 use Rattle.search_engine.proofs.SlotLemmas.{pages_kept}
 
 pages_grow : (n : Named) (q : Asked) (old new : HeldNames) (pages : List Page) → Serves n new → Grow old.records new.records → AreReadyPages n q old pages → AreReadyPages n q new pages
@@ -42,9 +40,6 @@ pub all_worked : (n : Named) (q : Asked) (held : HeldNames) (slots : List Slotte
 all_worked n q held [] worked ready = All-nil (IsWorked n q)
 all_worked n q held (s ∷ slots) worked ready =
     All-cons (IsWorked n q) s slots (All-head (IsWorkedBy q held) s slots worked n ready.0) (all_worked n q held slots (All-tail (IsWorkedBy q held) s slots worked) ready.1)
-
-pub served_first : (told : Option (List ℕ)) (q : Asked) (held : HeldNames) (places : List WordsPlace) (pages : List Page) → held.records ≡ map unread places → AreInOrder 0 places → pages ≡ [] → IsServed (named told held) q held pages
-served_first told q held places pages is order none = served_none (named told held) q held pages (serves_first told held places is order) none
 
 -- ---- a round that was searched
 

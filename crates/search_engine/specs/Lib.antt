@@ -10,7 +10,6 @@ pub mod Kept
 pub mod Lanes
 pub mod SegmentsDone
 pub mod Searched
-pub mod Prepared
 pub mod Refused
 pub mod StepsSofar
 pub mod StepsWaiting

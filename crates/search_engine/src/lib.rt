@@ -11,7 +11,6 @@ mod page_batch;
 mod page_slot;
 mod page_taking;
 mod parts;
-mod prepared;
 mod printing;
 mod refusal;
 mod searching;

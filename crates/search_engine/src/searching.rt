@@ -12,12 +12,11 @@ ghost use Rattle.search_meaning.specs.Journal.{OfJournal, ReadsNoBarren, asked};
 use crate::beside::{Crew, Workers, search_fronts};
 use crate::lane::LaneScope;
 use crate::page_batch::PageBatch;
-use crate::prepared::Prepared;
 use archive_places::{Places, heads_stand, words_stand};
 use column_store::Range;
 use log_seams::{SharedDisk, Sink};
 use search_meaning::Report;
-use search_walk::{Context, Query, SearchRefusal};
+use search_walk::{Prepared, Query, SearchRefusal};
 use std::alloc::Global;
 use std::sync::ledger::Ledger;
 use std::thread::Threads;
@@ -64,21 +63,15 @@ fn search_opened<R: Threads + Sync, D: SharedDisk, K: Sink, L: Ledger, M: Ledger
     words_stand();
     heads_stand();
     let prepared = Prepared::of(batch.alloc(), query, places, disk)?;
-    let Prepared {
-        files,
-        segments,
-        mut held,
-        layouts,
-        told,
-    } = prepared;
-    let names = files.as_slice();
-    let found = told.found.as_slice();
-    let context = Context::new(query, &layouts, &told.filter, names, found, &held, disk);
-    let fronts = segments.as_slice();
+    let Prepared { mut held, archive } = prepared;
+    let context = archive.context(query, &held, disk);
+    let names = archive.files.as_slice();
+    let found = archive.told.found.as_slice();
+    let fronts = archive.segments.as_slice();
     let lane = LaneScope {
         query,
-        layouts: &layouts,
-        filter: &told.filter,
+        layouts: &archive.layouts,
+        filter: &archive.told.filter,
         files: names,
         found,
     };

@@ -17,3 +17,4 @@ pub mod PassLemmas
 pub mod RunLemmas
 pub mod FrontLemmas
 pub mod SearchedLemmas
+pub mod PreparedLemmas

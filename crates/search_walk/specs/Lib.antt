@@ -9,3 +9,4 @@ pub mod Refused
 pub mod Takes
 pub mod Walked
 pub mod StepsPast
+pub mod Prepared

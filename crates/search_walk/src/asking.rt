@@ -124,7 +124,7 @@ fn find_numbers<D: Disk>(
 
 /// Asks the words of an archive what a filter and a query leave to them: in one pass, and in none where
 /// nothing is left.
-pub fn ask_words<D: Disk>(
+pub(crate) fn ask_words<D: Disk>(
     alloc: Global,
     query: &Query,
     filter: Filter,

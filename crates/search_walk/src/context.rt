@@ -37,7 +37,7 @@ use word_places::HeldWords;
 /// Of how many log types a search has layouts: the first ones, which most messages have, since a log type
 /// gets its number where its text is first met. Free to tune: a layout costs as much as it saves over some
 /// ten messages or twenty, and messages of other log types are written from their texts.
-pub const LAID_TYPES: u32 = 1024;
+pub(crate) const LAID_TYPES: u32 = 1024;
 
 /// What a search goes over, borrowed: the query, the first log types cut into pieces, what log types and
 /// words tell, and the files. It is the same in all calls of a search.

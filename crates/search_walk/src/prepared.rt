@@ -1,34 +1,65 @@
-//! What a search holds of an archive before it walks the segments.
-ghost use Rattle.std.specs.Prelude.{IfOk, IsErrOf};
+//! What a walk holds of an archive before it goes over the segments.
+ghost use Rattle.std.specs.Prelude.{◌≡◌, IfOk, IsErrOf};
 ghost use Rattle.log_seams.specs.Disk.{Rests};
 ghost use Rattle.log_seams.specs.Outside.{CountsOf};
 ghost use Rattle.query_plan.specs.Laws.{IsSearched};
 ghost use Rattle.word_places.specs.Places.{AreInOrder, OfWords};
 ghost use Rattle.word_places.specs.Reads.{ReadsWords};
-ghost use Rattle.search_engine.specs.Prepared.{IsReadyFor, KeepsPlaces};
+ghost use Rattle.search_walk.specs.Held.{named};
+ghost use Rattle.search_walk.specs.Prepared.{IsReadyFor, KeepsPlaces};
+ghost use Rattle.search_walk.specs.StepsScope.{IsScope, scope};
 
+use crate::asking::{Told, ask_words};
+use crate::context::{Context, LAID_TYPES};
+use crate::query::Query;
+use crate::refusal::SearchRefusal;
 use archive_open::FileList;
 use archive_places::{FrontList, Places};
 use log_seams::Disk;
 use row_codec::Layouts;
-use search_walk::{LAID_TYPES, Query, SearchRefusal, Told, ask_words};
 use std::alloc::Global;
 use subquery_filter::Filter;
 use word_places::HeldWords;
 
 /// An archive whose words were asked what a query leaves to them.
 #[derive(Drop)]
-pub(crate) struct Prepared {
+pub struct AskedArchive {
     /// The files, each at its number.
-    pub(crate) files: FileList,
+    pub files: FileList,
     /// The segments, sorted by file and first message.
-    pub(crate) segments: FrontList,
-    /// The words, none of which is held yet, beside the log types.
-    pub(crate) held: HeldWords,
+    pub segments: FrontList,
     /// The first log types, cut into their constants and slots.
-    pub(crate) layouts: Layouts,
+    pub layouts: Layouts,
     /// The filter of the query, and the numbers of the words that it needs.
-    pub(crate) told: Told,
+    pub told: Told,
+}
+
+impl AskedArchive {
+    /// What each call of a walk lends on. The words are those that were asked, on the same disk.
+    pub fn context<'q, D: Disk>(
+        &'q self,
+        query: &'q Query,
+        held: &HeldWords,
+        disk: &D,
+    ) -> Context<'q, D>
+        requires { IsScope (named (D.state disk.now).seen held.now) query.now
+            self.now.layouts self.now.told.filter self.now.told.found.items }
+        ensures { result ≡ scope (named (D.state disk.now).seen held.now)
+            query.now self.now.files }
+    {
+        let files = self.files.as_slice();
+        let found = self.told.found.as_slice();
+        Context::new(query, &self.layouts, &self.told.filter, files, found, held, disk)
+    }
+}
+
+/// What a walk begins with.
+#[derive(Drop)]
+pub struct Prepared {
+    /// The words, none of which is held yet, beside the log types.
+    pub held: HeldWords,
+    /// What the walk goes over by them.
+    pub archive: AskedArchive,
 }
 
 impl Prepared {
@@ -39,7 +70,7 @@ impl Prepared {
     ///
     /// `DiskFault`, where the disk's count of faults rose; `Damaged`, where no words stand at their
     /// places; or `OutOfMemory`.
-    pub(crate) fn of<D: Disk>(
+    pub fn of<D: Disk>(
         alloc: Global,
         query: &Query,
         places: Places,
@@ -79,15 +110,15 @@ impl Prepared {
         let filter = Filter::begin(alloc, plan)?;
         let told = ask_words(alloc, query, filter, records, disk)?;
         let asked = told.filter.ask(alloc, plan, &held)?;
-        Ok(Prepared {
+        let archive = AskedArchive {
             files,
             segments,
-            held,
             layouts,
             told: Told {
                 filter: asked,
                 found: told.found,
             },
-        })
+        };
+        Ok(Prepared { held, archive })
     }
 }

@@ -11,7 +11,7 @@ use Rattle.word_places.specs.Reads.{ReadsWords}
 use Rattle.word_places.proofs.ReadLemmas.{words_none}
 use Rattle.search_walk.specs.Held.{named}
 use Rattle.search_walk.proofs.ReadyLemmas.{named_words}
-use Rattle.search_engine.proofs.prepared.Prepared.of.Goals as goal
+use Rattle.search_walk.proofs.prepared.Prepared.of.Goals as goal
 
 pub ask_words-requires : goal.ask_words-requires
 ask_words-requires g c = subst (AreInOrder 0) (sym c.as_slice-records.ensures) c.requires.order
