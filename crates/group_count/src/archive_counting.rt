@@ -2,14 +2,11 @@
 ghost use Rattle.std.specs.Prelude.{IfOk, OnErr, IsErrOf};
 ghost use Rattle.log_seams.specs.Disk.{Rests};
 ghost use Rattle.log_seams.specs.Outside.{CountsOf};
-ghost use Rattle.query_plan.specs.Laws.{IsSearched};
-ghost use Rattle.archive_places.specs.Opened.{OpensPlaces};
-ghost use Rattle.word_places.specs.Places.{AreInOrder};
 ghost use Rattle.search_meaning.specs.Journal.{OfJournal, ReadsNoBarren};
 ghost use Rattle.group_count.specs.Grouped.{HasStoppedCounting};
 ghost use Rattle.group_count.specs.StepsArchive.{HasCounted};
 ghost use Rattle.group_count.specs.StepsCounted.{sofar};
-ghost use Rattle.group_count.specs.StepsServed.{IsWay};
+ghost use Rattle.group_count.specs.StepsServed.{MayCount};
 
 use crate::page_counter::PageCounter;
 use crate::page_taking::count_segments;
@@ -41,10 +38,7 @@ pub(crate) fn count_archive<D: Disk, T: RowTable, L: Ledger, M: Ledger>(
     opened: &mut Steps<L>,
     expanded: &mut Steps<M>,
 ) -> Result<Gone, SearchRefusal>
-    requires searched { IsSearched query.now.pattern }
-    requires opens { OpensPlaces (D.state disk.old).seen places }
-    requires order { AreInOrder 0 places.words }
-    requires way { IsWay query.now counter.old.way }
+    requires { MayCount (D.state disk.old).seen places query.now counter.old.way }
 
     // what stays
     ensures rests { Rests (D.state disk.old) (D.state disk.new) }

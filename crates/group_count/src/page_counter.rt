@@ -1,15 +1,13 @@
 //! Pages that are read one after the other, and whose rows are counted.
-ghost use Rattle.std.specs.Prelude.{◌≡◌, ◌<◌, ℕ, List, length, IfOk, OnOk, OnErr, IsErrOf};
+ghost use Rattle.std.specs.Prelude.{◌≡◌, ℕ, List, IfOk, OnOk, OnErr, IsErrOf};
 ghost use Rattle.log_seams.specs.Outside.{CountsOf};
-ghost use Rattle.segment_format.specs.Pages.{page_rows};
-ghost use Rattle.segment_pages.specs.Paged.{AreNextTold, paged_after};
 ghost use Rattle.search_walk.specs.Held.{OfLeft};
 ghost use Rattle.search_walk.specs.PagesRead.{ReadsPage};
-ghost use Rattle.search_walk.specs.Ready.{IsReadyPage, Serves};
+ghost use Rattle.search_walk.specs.Ready.{Serves};
 ghost use Rattle.printed_lines.specs.Lines.{numbered};
 ghost use Rattle.search_walk.specs.Walked.{PageGone, PagesGone, PastTold};
 ghost use Rattle.group_count.specs.StepsCounted.{Counted, Passes, Stops, sofar};
-ghost use Rattle.group_count.specs.StepsServed.{FindsAll, IsServed};
+ghost use Rattle.group_count.specs.StepsServed.{FindsAll, HasNext, IsDecidedPage, IsServed};
 
 use crate::columns::ColumnRoom;
 use crate::counts::Counts;
@@ -59,20 +57,15 @@ fn read_page<D: Disk>(
     disk: &mut D,
     room: &mut PageRoom,
 ) -> Result<(), SearchRefusal>
-    requires left { pages.old.pages.row < pages.old.pages.rows }
+    requires next { HasNext (D.state disk.old).seen context.now.names pages.old }
     requires serves { Serves context.now.names held.old }
-    requires told { (D.state disk.old).seen ≡ context.now.names.told }
 
     // what stays
     ensures reads { ReadsPage context.now.names pages.old (D.state disk.old) (D.state disk.new) }
 
     // by the answer
-    ensures ready { OnOk result (IsReadyPage context.now.names context.now.query
-        held.new room.new.columns.rows room.new.verdicts.items) }
-    ensures next { OnOk result (AreNextTold (D.state disk.old).seen
-        pages.old pages.new room.new.columns.rows) }
-    ensures after { OnOk result (pages.new ≡ paged_after pages.old room.new.columns.rows) }
-    ensures count { OnOk result (length room.new.columns.rows ≡ page_rows pages.old.pages) }
+    ensures page { OnOk result (IsDecidedPage (D.state disk.old).seen context.now
+        pages.old pages.new held.new room.new.columns.rows room.new.verdicts.items) }
 
     // causes
     ensures damaged { IsErrOf result SearchRefusal.Damaged → OfLeft
@@ -157,9 +150,8 @@ pub(crate) fn count_next<D: Disk, T: RowTable, M: Ledger>(
     counter: &mut PageCounter<T>,
     expanded: &mut Steps<M>,
 ) -> Result<u32, SearchRefusal>
-    requires left { pages.old.pages.row < pages.old.pages.rows }
+    requires next { HasNext (D.state disk.old).seen context.now.names pages.old }
     requires served { IsServed context.now held.old counter.old.way }
-    requires told { (D.state disk.old).seen ≡ context.now.names.told }
 
     // what stays
     ensures reads { ReadsPage context.now.names pages.old (D.state disk.old) (D.state disk.new) }
@@ -214,9 +206,8 @@ pub(crate) fn count_rest<D: Disk, T: RowTable>(
     disk: &mut D,
     counter: &mut PageCounter<T>,
 ) -> Result<u32, SearchRefusal>
-    requires left { pages.old.pages.row < pages.old.pages.rows }
+    requires next { HasNext (D.state disk.old).seen context.now.names pages.old }
     requires all { FindsAll context.now.query }
-    requires told { (D.state disk.old).seen ≡ context.now.names.told }
 
     // what stays
     ensures reads { ReadsPage context.now.names pages.old (D.state disk.old) (D.state disk.new) }

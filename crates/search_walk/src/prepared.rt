@@ -49,7 +49,15 @@ impl AskedArchive {
     {
         let files = self.files.as_slice();
         let found = self.told.found.as_slice();
-        Context::new(query, &self.layouts, &self.told.filter, files, found, held, disk)
+        Context::new(
+            query,
+            &self.layouts,
+            &self.told.filter,
+            files,
+            found,
+            held,
+            disk,
+        )
     }
 }
 

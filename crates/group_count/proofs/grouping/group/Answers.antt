@@ -1,5 +1,7 @@
 use Rattle.std.proofs.Common.{[], refl, rules, subst, sym}
+use Rattle.query_plan.specs.Laws.{IsSearched}
 use Rattle.search_meaning.specs.Journal.{OfJournal, ReadsNoBarren, asked}
+use Rattle.search_meaning.specs.declared.groups.GroupBy.{GroupBy}
 use Rattle.search_meaning.specs.declared.groups.GroupBy.TheVariants.{Minute, Shape}
 use Rattle.search_walk.proofs.AnswerLemmas.{on_err}
 use Rattle.search_walk.proofs.JournalLemmas.{asked_is, reads_nothing}
@@ -26,11 +28,16 @@ returns-in_err-query-clause-stopped g c = on_err c.from_residual-in_err-query.re
 
 -- ---- by log type
 
-pub count_archive-in-Shape-requires-clause-way : goal.count_archive-in-Shape-requires-clause-way
-count_archive-in-Shape-requires-clause-way g c =
+pub count_archive-in-Shape-requires : goal.count_archive-in-Shape-requires
+count_archive-in-Shape-requires g c =
     let same = asked_is c.in_ok-query.query c.args.pattern.now c.args.range.now c.in_ok-query.ensures.pattern c.in_ok-query.ensures.range in
-    subst (λ q. IsWay q c.new-counter-in-Shape.result.way) (sym same)
-    (subst (IsWay (asked c.args.pattern.now c.args.range.now)) (sym c.new-counter-in-Shape.ensures.way) c.in_ok-way.ensures)
+    record {
+      searched = subst IsSearched (sym c.in_ok-query.ensures.pattern) c.requires.searched;
+      opens = c.requires.opens;
+      order = c.requires.order;
+      way = subst (λ q. IsWay q c.new-counter-in-Shape.result.way) (sym same)
+          (subst (IsWay (asked c.args.pattern.now c.args.range.now)) (sym c.new-counter-in-Shape.ensures.way) c.in_ok-way.ensures);
+    }
 
 pub returns-in_err-gone-in-Shape-clause-reads : goal.returns-in_err-gone-in-Shape-clause-reads
 returns-in_err-gone-in-Shape-clause-reads g c =
@@ -67,19 +74,25 @@ returns-in_err-grouped-in-Shape-clause-damaged g c = λ is.
 
 pub returns-in-Shape-clause-done : goal.returns-in-Shape-clause-done
 returns-in-Shape-clause-done g c =
-    subst (λ q. OfJournal (g.D.Disk.state c.args.disk.now).seen (λ h es held. HasGrouped h es held q Shape c.in_ok-grouped-in-Shape.grouped c.args.opened.now c.count_archive-in-Shape.new.opened c.args.expanded.now c.count_archive-in-Shape.new.expanded))
+    subst (λ (b : GroupBy). OfJournal (g.D.Disk.state c.args.disk.now).seen (λ h es held. HasGrouped h es held (asked c.args.pattern.now c.args.range.now) b c.in_ok-grouped-in-Shape.grouped c.args.opened.now c.count_archive-in-Shape.new.opened c.args.expanded.now c.count_archive-in-Shape.new.expanded)) (sym c.in-Shape.is)
+    (subst (λ q. OfJournal (g.D.Disk.state c.args.disk.now).seen (λ h es held. HasGrouped h es held q Shape c.in_ok-grouped-in-Shape.grouped c.args.opened.now c.count_archive-in-Shape.new.opened c.args.expanded.now c.count_archive-in-Shape.new.expanded))
     (asked_is c.in_ok-query.query c.args.pattern.now c.args.range.now c.in_ok-query.ensures.pattern c.in_ok-query.ensures.range)
     (all_types (g.D.Disk.state c.args.disk.now).seen c.args.places c.requires.opens c.in_ok-query.query c.in_ok-gone-in-Shape.gone c.args.expanded.now c.count_archive-in-Shape.new.expanded c.args.opened.now c.count_archive-in-Shape.new.opened c.rows_have_keys.ensures.types c.new-table-in-Shape.result
     c.new-counter-in-Shape.result.counts c.count_archive-in-Shape.new.counter.counts c.new-counter-in-Shape.ensures.table (subst (λ n. AreTypes n c.new-table-in-Shape.result []) c.len-in-Shape.ensures.count c.new-table-in-Shape.ensures) c.in_ok-gone-in-Shape.ensures.done c.in_ok-grouped-in-Shape.grouped c.new-counter-in-Shape.ensures.matched c.new-counter-in-Shape.ensures.expanded c.in_ok-grouped-in-Shape.ensures.report
     c.in_ok-grouped-in-Shape.ensures.groups c.in_ok-grouped-in-Shape.ensures.moments c.in_ok-grouped-in-Shape.ensures.without)
 
--- ---- by minute
+-- ---- by minute)
 
-pub count_archive-in-Minute-requires-clause-way : goal.count_archive-in-Minute-requires-clause-way
-count_archive-in-Minute-requires-clause-way g c =
+pub count_archive-in-Minute-requires : goal.count_archive-in-Minute-requires
+count_archive-in-Minute-requires g c =
     let same = asked_is c.in_ok-query.query c.args.pattern.now c.args.range.now c.in_ok-query.ensures.pattern c.in_ok-query.ensures.range in
-    subst (λ q. IsWay q c.new-counter-in-Minute.result.way) (sym same)
-    (subst (IsWay (asked c.args.pattern.now c.args.range.now)) (sym c.new-counter-in-Minute.ensures.way) c.in_ok-way.ensures)
+    record {
+      searched = subst IsSearched (sym c.in_ok-query.ensures.pattern) c.requires.searched;
+      opens = c.requires.opens;
+      order = c.requires.order;
+      way = subst (λ q. IsWay q c.new-counter-in-Minute.result.way) (sym same)
+          (subst (IsWay (asked c.args.pattern.now c.args.range.now)) (sym c.new-counter-in-Minute.ensures.way) c.in_ok-way.ensures);
+    }
 
 pub returns-in_err-gone-in-Minute-clause-reads : goal.returns-in_err-gone-in-Minute-clause-reads
 returns-in_err-gone-in-Minute-clause-reads g c =
@@ -110,7 +123,8 @@ returns-in_err-grouped-in-Minute-clause-stopped g c = on_err c.from_residual-in_
 
 pub returns-in-Minute-clause-done : goal.returns-in-Minute-clause-done
 returns-in-Minute-clause-done g c =
-    subst (λ q. OfJournal (g.D.Disk.state c.args.disk.now).seen (λ h es held. HasGrouped h es held q Minute c.in_ok-grouped-in-Minute.grouped c.args.opened.now c.count_archive-in-Minute.new.opened c.args.expanded.now c.count_archive-in-Minute.new.expanded))
+    subst (λ (b : GroupBy). OfJournal (g.D.Disk.state c.args.disk.now).seen (λ h es held. HasGrouped h es held (asked c.args.pattern.now c.args.range.now) b c.in_ok-grouped-in-Minute.grouped c.args.opened.now c.count_archive-in-Minute.new.opened c.args.expanded.now c.count_archive-in-Minute.new.expanded)) (sym c.in-Minute.is)
+    (subst (λ q. OfJournal (g.D.Disk.state c.args.disk.now).seen (λ h es held. HasGrouped h es held q Minute c.in_ok-grouped-in-Minute.grouped c.args.opened.now c.count_archive-in-Minute.new.opened c.args.expanded.now c.count_archive-in-Minute.new.expanded))
     (asked_is c.in_ok-query.query c.args.pattern.now c.args.range.now c.in_ok-query.ensures.pattern c.in_ok-query.ensures.range)
     (let seen = (g.D.Disk.state c.args.disk.now).seen in
     let q = c.in_ok-query.query in
@@ -122,4 +136,4 @@ returns-in-Minute-clause-done g c =
     let o1 = c.count_archive-in-Minute.new.opened in
     all_minutes seen c.args.places c.requires.opens q gone e0 e1 o0 o1 c.rows_have_keys.ensures.minutes c.new-table-in-Minute.result k c.into_counts-in-Minute.result c.in_ok-grouped-in-Minute.grouped c.new-counter-in-Minute.ensures.table (micro_is c.new-table-in-Minute.result.micro _ c.new-table-in-Minute.ensures.micro) c.new-table-in-Minute.ensures.nothing
     c.new-counter-in-Minute.ensures.matched c.new-counter-in-Minute.ensures.expanded c.in_ok-grouped-in-Minute.ensures.report c.in_ok-grouped-in-Minute.ensures.groups c.in_ok-grouped-in-Minute.ensures.keys c.in_ok-grouped-in-Minute.ensures.without
-    (subst (λ (m : Counts MinuteState). OfJournal seen (λ h es held. HasCounted counted_minutes h es held q gone (sofar k e0) (sofar m e1) o0 o1)) (sym c.into_counts-in-Minute.ensures) c.in_ok-gone-in-Minute.ensures.done))
+    (subst (λ (m : Counts MinuteState). OfJournal seen (λ h es held. HasCounted counted_minutes h es held q gone (sofar k e0) (sofar m e1) o0 o1)) (sym c.into_counts-in-Minute.ensures) c.in_ok-gone-in-Minute.ensures.done)))

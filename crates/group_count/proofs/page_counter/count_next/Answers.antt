@@ -8,21 +8,24 @@ use Rattle.group_count.proofs.page_counter.count_next.Goals as goal
 pub returns-in_err-read_page-clause-stopped : goal.returns-in_err-read_page-clause-stopped
 returns-in_err-read_page-clause-stopped g c = on_err c.from_residual.result _ (λ name number. page_unread _ c.args.pages.now c.args.context.now.names c.args.context.now.query c.args.expanded.now name number)
 
+pub count_rows-requires-clause-ready : goal.count_rows-requires-clause-ready
+count_rows-requires-clause-ready g c = c.in_ok-read_page.ensures.page.ready
+
 pub returns-in_err-count_rows-clause-stopped : goal.returns-in_err-count_rows-clause-stopped
 returns-in_err-count_rows-clause-stopped g c =
     on_err c.from_residual-in_err-count_rows.result _
-    (page_stopped _ c.args.pages.now c.read_page.new.pages c.args.context.now.names c.args.context.now.query c.read_page.new.room.columns.rows c.args.expanded.now c.count_rows.new.expanded c.in_ok-read_page.ensures.next c.in_err-count_rows.ensures.stopped)
+    (page_stopped _ c.args.pages.now c.read_page.new.pages c.args.context.now.names c.args.context.now.query c.read_page.new.room.columns.rows c.args.expanded.now c.count_rows.new.expanded c.in_ok-read_page.ensures.page.next c.in_err-count_rows.ensures.stopped)
 
 pub returns-in_err-count_rows-clause-damaged : goal.returns-in_err-count_rows-clause-damaged
 returns-in_err-count_rows-clause-damaged g c = λ is.
-    page_damaged _ c.args.pages.now c.read_page.new.pages c.args.context.now.names c.read_page.new.room.columns.rows c.in_ok-read_page.ensures.next (c.in_err-count_rows.ensures.damaged (search rules))
+    page_damaged _ c.args.pages.now c.read_page.new.pages c.args.context.now.names c.read_page.new.room.columns.rows c.in_ok-read_page.ensures.page.next (c.in_err-count_rows.ensures.damaged (search rules))
 
 pub returns-clause-gone : goal.returns-clause-gone
-returns-clause-gone g c = (c.read_page.new.room.columns.rows, c.in_ok-read_page.ensures.after, c.in_ok-read_page.ensures.count, search rules)
+returns-clause-gone g c = (c.read_page.new.room.columns.rows, c.in_ok-read_page.ensures.page.after, c.in_ok-read_page.ensures.page.count, search rules)
 
 pub returns-clause-done : goal.returns-clause-done
 returns-clause-done g c = λ name number.
     let n = c.args.context.now.names in
     let q = c.args.context.now.query in
     past_page (λ l. Passes g.T.RowTable.counted n q l (sofar c.args.counter.now.counts c.args.expanded.now) (sofar c.count_rows.new.counts c.count_rows.new.expanded)) _ c.args.pages.now c.read_page.new.pages n name number _ c.read_page.new.room.columns.rows
-    c.in_ok-read_page.ensures.next (search rules) (c.in_ok-count_rows.ensures.done name number)
+    c.in_ok-read_page.ensures.page.next (search rules) (c.in_ok-count_rows.ensures.done name number)

@@ -15,7 +15,7 @@ pub returns-clause-reads : goal.returns-clause-reads
 returns-clause-reads g c = columns_such c.args.context.now.names c.args.pages.now _ _ c.count_left.ensures.reads
 
 pub returns-clause-gone : goal.returns-clause-gone
-returns-clause-gone g c = rest_gone c.args.pages.now c.pass_rest.new.self c.rows_left-rows.result c.requires.left c.pass_rest.ensures.end c.rows_left-rows.ensures
+returns-clause-gone g c = rest_gone c.args.pages.now c.pass_rest.new.self c.rows_left-rows.result c.requires.next.page c.pass_rest.ensures.end c.rows_left-rows.ensures
 
 pub returns-clause-done : goal.returns-clause-done
 returns-clause-done g c = λ name number ticks.

@@ -13,3 +13,11 @@ returns-in_err-decide_rows-clause-reads g c =
 pub returns-clause-reads : goal.returns-clause-reads
 returns-clause-reads g c =
     page_such c.args.context.now.names c.args.pages.now (g.D.Disk.state c.args.disk.now) (g.D.Disk.state c.next_page.new.disk) _ c.next_page.ensures.reads c.decide_rows.ensures.rests c.decide_rows.ensures.reads
+
+pub returns-clause-page : goal.returns-clause-page
+returns-clause-page g c = record {
+  ready = record { serves = c.decide_rows.ensures.serves; each = c.in_ok-decide_rows.ensures.ready };
+  next = c.in_ok-room.ensures.page;
+  after = c.in_ok-room.ensures.after;
+  count = c.in_ok-room.ensures.count;
+}
