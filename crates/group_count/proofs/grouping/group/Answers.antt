@@ -79,9 +79,9 @@ returns-in-Shape-clause-done g c =
     (asked_is c.in_ok-query.query c.args.pattern.now c.args.range.now c.in_ok-query.ensures.pattern c.in_ok-query.ensures.range)
     (all_types (g.D.Disk.state c.args.disk.now).seen c.args.places c.requires.opens c.in_ok-query.query c.in_ok-gone-in-Shape.gone c.args.expanded.now c.count_archive-in-Shape.new.expanded c.args.opened.now c.count_archive-in-Shape.new.opened c.rows_have_keys.ensures.types c.new-table-in-Shape.result
     c.new-counter-in-Shape.result.counts c.count_archive-in-Shape.new.counter.counts c.new-counter-in-Shape.ensures.table (subst (λ n. AreTypes n c.new-table-in-Shape.result []) c.len-in-Shape.ensures.count c.new-table-in-Shape.ensures) c.in_ok-gone-in-Shape.ensures.done c.in_ok-grouped-in-Shape.grouped c.new-counter-in-Shape.ensures.matched c.new-counter-in-Shape.ensures.expanded c.in_ok-grouped-in-Shape.ensures.report
-    c.in_ok-grouped-in-Shape.ensures.groups c.in_ok-grouped-in-Shape.ensures.moments c.in_ok-grouped-in-Shape.ensures.without)
+    c.in_ok-grouped-in-Shape.ensures.groups c.in_ok-grouped-in-Shape.ensures.moments c.in_ok-grouped-in-Shape.ensures.without))
 
--- ---- by minute)
+-- ---- by minute
 
 pub count_archive-in-Minute-requires : goal.count_archive-in-Minute-requires
 count_archive-in-Minute-requires g c =

@@ -20,6 +20,9 @@ pub returns-in_err-count_rows-clause-damaged : goal.returns-in_err-count_rows-cl
 returns-in_err-count_rows-clause-damaged g c = λ is.
     page_damaged _ c.args.pages.now c.read_page.new.pages c.args.context.now.names c.read_page.new.room.columns.rows c.in_ok-read_page.ensures.page.next (c.in_err-count_rows.ensures.damaged (search rules))
 
+pub returns-clause-served : goal.returns-clause-served
+returns-clause-served g c = record { serves = c.in_ok-read_page.ensures.page.ready.serves; way = c.requires.served.way }
+
 pub returns-clause-gone : goal.returns-clause-gone
 returns-clause-gone g c = (c.read_page.new.room.columns.rows, c.in_ok-read_page.ensures.page.after, c.in_ok-read_page.ensures.page.count, search rules)
 
