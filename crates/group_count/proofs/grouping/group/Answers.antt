@@ -28,8 +28,8 @@ returns-in_err-query-clause-stopped g c = on_err c.from_residual-in_err-query.re
 
 -- ---- by log type
 
-pub count_archive-in-Shape-requires : goal.count_archive-in-Shape-requires
-count_archive-in-Shape-requires g c =
+pub count_archive-requires-in-Shape : goal.count_archive-requires-in-Shape
+count_archive-requires-in-Shape g c =
     let same = asked_is c.in_ok-query.query c.args.pattern.now c.args.range.now c.in_ok-query.ensures.pattern c.in_ok-query.ensures.range in
     record {
       searched = subst IsSearched (sym c.in_ok-query.ensures.pattern) c.requires.searched;
@@ -83,8 +83,8 @@ returns-in-Shape-clause-done g c =
 
 -- ---- by minute
 
-pub count_archive-in-Minute-requires : goal.count_archive-in-Minute-requires
-count_archive-in-Minute-requires g c =
+pub count_archive-requires-in-Minute : goal.count_archive-requires-in-Minute
+count_archive-requires-in-Minute g c =
     let same = asked_is c.in_ok-query.query c.args.pattern.now c.args.range.now c.in_ok-query.ensures.pattern c.in_ok-query.ensures.range in
     record {
       searched = subst IsSearched (sym c.in_ok-query.ensures.pattern) c.requires.searched;
