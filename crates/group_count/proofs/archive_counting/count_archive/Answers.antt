@@ -13,6 +13,12 @@ use Rattle.group_count.proofs.GroupedLemmas.{stopped_nothing}
 use Rattle.group_count.proofs.WalkedLemmas.{all_counted, all_stopped}
 use Rattle.group_count.proofs.archive_counting.count_archive.Goals as goal
 
+pub of-requires-clause-searched : goal.of-requires-clause-searched
+of-requires-clause-searched g c = c.requires.searched
+
+pub of-requires-clause-order : goal.of-requires-clause-order
+of-requires-clause-order g c = c.requires.order
+
 pub returns-in_err-prepared-clause-reads : goal.returns-in_err-prepared-clause-reads
 returns-in_err-prepared-clause-reads g c = words_only _ c.args.places c.args.query.now c.args.places.words _ _ refl c.requires.opens c.of.ensures.reads
 

@@ -3,6 +3,9 @@ use Rattle.search_walk.proofs.PageLemmas.{none_damaged}
 use Rattle.search_walk.proofs.PagesReadLemmas.{page_such}
 use Rattle.group_count.proofs.page_counter.read_page.Goals as goal
 
+pub next_page-requires : goal.next_page-requires
+next_page-requires g c = c.requires.next.page
+
 pub returns-in_err-room-clause-damaged : goal.returns-in_err-room-clause-damaged
 returns-in_err-room-clause-damaged g c = λ is. none_damaged _ c.args.pages.now c.args.context.now.names (c.in_err-room.ensures.damaged (search rules))
 
