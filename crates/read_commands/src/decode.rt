@@ -8,8 +8,8 @@ ghost use Rattle.command_answers.specs.Decoding.{LacksFile, PrintsFile};
 ghost use Rattle.command_refusals.specs.Reading.{OverJournal};
 ghost use Rattle.read_commands.specs.Decoding.{from_decode};
 
-use archive_text::{DecodeRefusal, decode};
 use archive_open::{Archive, PlainBooks, open_archive};
+use archive_text::{DecodeRefusal, decode};
 use command_refusals::FileRefusal;
 use log_seams::{Disk, Sink};
 use std::alloc::Global;

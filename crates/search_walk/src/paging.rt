@@ -113,5 +113,14 @@ pub(crate) fn read_pages<D: Disk, W: TakesPages>(
 {
     let told = read_ahead(&pages, disk, room)?;
     let known = known_of(context, told, room.types.as_slice());
-    take_pages(context, held, label, pages, disk, work, known, &mut room.bytes)
+    take_pages(
+        context,
+        held,
+        label,
+        pages,
+        disk,
+        work,
+        known,
+        &mut room.bytes,
+    )
 }
