@@ -1,4 +1,4 @@
-use Rattle.std.proofs.Common.{[], refl, rules, subst, sym, ◌≡◌}
+use Rattle.std.proofs.Common.{[], refl}
 use Rattle.search_walk.specs.Held.{Named}
 use Rattle.search_walk.specs.PagesRead.{IsOfPage}
 use Rattle.printed_lines.specs.Lines.{numbered}

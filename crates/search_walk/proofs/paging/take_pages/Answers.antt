@@ -1,9 +1,8 @@
-use Rattle.std.proofs.Common.{◌<◌, [], arith, rules, refl, drop}
+use Rattle.std.proofs.Common.{◌<◌, [], arith, rules, refl}
 use Rattle.segment_pages.proofs.PageLemmas.{none_left}
 use Rattle.search_walk.specs.Held.{Named}
 use Rattle.search_walk.proofs.AnswerLemmas.{if_some_to, on_err}
 use Rattle.search_walk.proofs.PageLemmas.{pages_first, pages_next, pages_reads, past_damaged, past_end, past_stops}
-use Rattle.search_walk.specs.Walked.{TellAhead, TellLeft}
 use Rattle.search_walk.proofs.PassLemmas.{known_here}
 use Rattle.search_walk.proofs.paging.take_pages.Goals as goal
 

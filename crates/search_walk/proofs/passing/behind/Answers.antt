@@ -1,4 +1,4 @@
-use Rattle.std.proofs.Common.{rules, sym, ◌∙◌}
+use Rattle.std.proofs.Common.{rules, sym}
 use Rattle.std.proofs.Math.ListN.{drop_of_length-le}
 use Rattle.search_walk.proofs.passing.behind.Goals as goal
 

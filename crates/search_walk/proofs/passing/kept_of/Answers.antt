@@ -1,4 +1,4 @@
-use Rattle.std.proofs.Common.{rules, sym}
+use Rattle.std.proofs.Common.{rules}
 use Rattle.search_walk.proofs.PassLemmas.{keeps_all, keeps_fewer}
 use Rattle.search_walk.proofs.passing.kept_of.Goals as goal
 

@@ -1,4 +1,3 @@
-use Rattle.std.proofs.Common.{rules}
 use Rattle.search_walk.specs.PagesRead.{IsOfPage}
 use Rattle.search_walk.proofs.PagesReadLemmas.{columns_such, such_none}
 use Rattle.search_walk.proofs.passing.pass_next.Goals as goal

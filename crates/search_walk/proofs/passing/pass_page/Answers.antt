@@ -1,4 +1,4 @@
-use Rattle.std.proofs.Common.{[], ◌≡◌, rules, subst, take}
+use Rattle.std.proofs.Common.{rules, subst}
 use Rattle.std.specs.Prelude.{All}
 use Rattle.search_walk.specs.Held.{Named}
 use Rattle.search_walk.specs.Ready.{IsRuledOut}
