@@ -10,6 +10,7 @@ ghost use Rattle.search_meaning.specs.Journal.{OfJournal, ReadsNoBarren, asked};
 ghost use Rattle.group_count.specs.Grouped.{HasGrouped, HasStoppedCounting};
 ghost use Rattle.search_meaning.specs.Groups.{AreGroups, by_key, by_moment, byte_order, stamped};
 ghost use Rattle.group_count.specs.StepsArchive.{reported};
+ghost use Rattle.group_count.specs.StepsServed.{MayCount};
 ghost use Rattle.group_count.specs.Tables.{AreMinutes, AreNumbered, AreTypes, texts_at};
 
 use crate::archive_counting::{Gone, count_archive};
@@ -19,7 +20,7 @@ use crate::minutes::MinuteTable;
 use crate::page_counter::PageCounter;
 use crate::refusal::TableRefusal;
 use crate::types::TypeTable;
-use crate::way::way_of;
+use crate::way::{Way, way_of};
 use archive_places::Places;
 use column_store::Range;
 use log_seams::Disk;
@@ -91,6 +92,127 @@ fn minutes_of(
     })
 }
 
+/// Counts the messages of an archive that are found, by their log types.
+fn group_types<D: Disk, L: Ledger, M: Ledger>(
+    alloc: Global,
+    query: &Query,
+    way: Way,
+    places: Places,
+    disk: &mut D,
+    opened: &mut Steps<L>,
+    expanded: &mut Steps<M>,
+) -> Result<Grouped, SearchRefusal>
+    requires { MayCount (D.state disk.old).seen places query.now way }
+
+    // what stays
+    ensures rests { Rests (D.state disk.old) (D.state disk.new) }
+    ensures reads { OfJournal (D.state disk.old).seen (λ h es held. ReadsNoBarren h es held
+        query.now (D.state disk.old).ranges (D.state disk.new).ranges) }
+
+    // by the answer
+    ensures done { IfOk result (λ g. OfJournal (D.state disk.old).seen (λ h es held. HasGrouped
+        h es held query.now GroupBy.Shape g
+        opened.old opened.new expanded.old expanded.new)) }
+    ensures stopped { OnErr result (OfJournal (D.state disk.old).seen (λ h es held.
+        HasStoppedCounting h es held query.now
+        opened.old opened.new expanded.old expanded.new)) }
+
+    // causes
+    ensures damaged { IsErrOf result SearchRefusal.Damaged
+        → OfJournal (D.state disk.old).seen (λ _ _ _. ⊥) }
+    ensures disk_counts { CountsOf SearchRefusal.DiskFault
+        (D.state disk.old).faults (D.state disk.new).faults result }
+    ensures sink { ¬ IsErrOf result SearchRefusal.SinkFault }
+{
+    // The log types of rows are those of the messages that they are the encodings of.
+    rows_have_keys();
+    let table = TypeTable::new(alloc, places.types.len());
+    let mut counter = PageCounter::new(alloc, way, table);
+    let gone = count_archive(query, places, disk, &mut counter, opened, expanded)?;
+    let grouped = types_of(alloc, &counter.counts, &gone)?;
+    Ok(grouped)
+}
+
+/// Counts the messages of an archive that are found, by the minutes of their stamps.
+fn group_minutes<D: Disk, L: Ledger, M: Ledger>(
+    alloc: Global,
+    query: &Query,
+    way: Way,
+    places: Places,
+    disk: &mut D,
+    opened: &mut Steps<L>,
+    expanded: &mut Steps<M>,
+) -> Result<Grouped, SearchRefusal>
+    requires { MayCount (D.state disk.old).seen places query.now way }
+
+    // what stays
+    ensures rests { Rests (D.state disk.old) (D.state disk.new) }
+    ensures reads { OfJournal (D.state disk.old).seen (λ h es held. ReadsNoBarren h es held
+        query.now (D.state disk.old).ranges (D.state disk.new).ranges) }
+
+    // by the answer
+    ensures done { IfOk result (λ g. OfJournal (D.state disk.old).seen (λ h es held. HasGrouped
+        h es held query.now GroupBy.Minute g
+        opened.old opened.new expanded.old expanded.new)) }
+    ensures stopped { OnErr result (OfJournal (D.state disk.old).seen (λ h es held.
+        HasStoppedCounting h es held query.now
+        opened.old opened.new expanded.old expanded.new)) }
+
+    // causes
+    ensures damaged { IsErrOf result SearchRefusal.Damaged
+        → OfJournal (D.state disk.old).seen (λ _ _ _. ⊥) }
+    ensures disk_counts { CountsOf SearchRefusal.DiskFault
+        (D.state disk.old).faults (D.state disk.new).faults result }
+    ensures sink { ¬ IsErrOf result SearchRefusal.SinkFault }
+{
+    // The minutes of rows are those of the messages that they are the encodings of. From version 3 on
+    // moments count microseconds.
+    rows_have_keys();
+    let table = MinuteTable::new(alloc, places.header.version >= 3);
+    let mut counter = PageCounter::new(alloc, way, table);
+    let gone = count_archive(query, places, disk, &mut counter, opened, expanded)?;
+    let grouped = minutes_of(alloc, counter.into_counts(), &gone)?;
+    Ok(grouped)
+}
+
+/// Counts the messages of an archive that are found, by what it is asked.
+fn group_found<D: Disk, L: Ledger, M: Ledger>(
+    alloc: Global,
+    query: &Query,
+    way: Way,
+    places: Places,
+    disk: &mut D,
+    by: GroupBy,
+    opened: &mut Steps<L>,
+    expanded: &mut Steps<M>,
+) -> Result<Grouped, SearchRefusal>
+    requires { MayCount (D.state disk.old).seen places query.now way }
+
+    // what stays
+    ensures rests { Rests (D.state disk.old) (D.state disk.new) }
+    ensures reads { OfJournal (D.state disk.old).seen (λ h es held. ReadsNoBarren h es held
+        query.now (D.state disk.old).ranges (D.state disk.new).ranges) }
+
+    // by the answer
+    ensures done { IfOk result (λ g. OfJournal (D.state disk.old).seen (λ h es held. HasGrouped
+        h es held query.now by g opened.old opened.new expanded.old expanded.new)) }
+    ensures stopped { OnErr result (OfJournal (D.state disk.old).seen (λ h es held.
+        HasStoppedCounting h es held query.now
+        opened.old opened.new expanded.old expanded.new)) }
+
+    // causes
+    ensures damaged { IsErrOf result SearchRefusal.Damaged
+        → OfJournal (D.state disk.old).seen (λ _ _ _. ⊥) }
+    ensures disk_counts { CountsOf SearchRefusal.DiskFault
+        (D.state disk.old).faults (D.state disk.new).faults result }
+    ensures sink { ¬ IsErrOf result SearchRefusal.SinkFault }
+{
+    match by {
+        GroupBy::Shape => group_types(alloc, query, way, places, disk, opened, expanded),
+        GroupBy::Minute => group_minutes(alloc, query, way, places, disk, opened, expanded),
+    }
+}
+
 /// Counts the messages of an archive that a pattern matches, in the range, by their log types or by
 /// the minutes of their stamps. The pattern is one that [`read_pattern`](wild_match::read_pattern)
 /// read, and the places those of the disk.
@@ -141,25 +263,7 @@ pub fn group<D: Disk, L: Ledger, M: Ledger>(
         (D.state disk.old).faults (D.state disk.new).faults result }
     ensures sink { ¬ IsErrOf result SearchRefusal.SinkFault }
 {
-    // The log types and minutes of rows are those of the messages that they are the encodings of.
-    rows_have_keys();
     let way = way_of(alloc, pattern, range)?;
     let query = Query::new(alloc, pattern, range)?;
-    match by {
-        GroupBy::Shape => {
-            let table = TypeTable::new(alloc, places.types.len());
-            let mut counter = PageCounter::new(alloc, way, table);
-            let gone = count_archive(&query, places, disk, &mut counter, opened, expanded)?;
-            let grouped = types_of(alloc, &counter.counts, &gone)?;
-            Ok(grouped)
-        }
-        GroupBy::Minute => {
-            // From version 3 on moments count microseconds.
-            let table = MinuteTable::new(alloc, places.header.version >= 3);
-            let mut counter = PageCounter::new(alloc, way, table);
-            let gone = count_archive(&query, places, disk, &mut counter, opened, expanded)?;
-            let grouped = minutes_of(alloc, counter.into_counts(), &gone)?;
-            Ok(grouped)
-        }
-    }
+    group_found(alloc, &query, way, places, disk, by, opened, expanded)
 }

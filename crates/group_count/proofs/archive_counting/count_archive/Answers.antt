@@ -1,4 +1,4 @@
-use Rattle.std.proofs.Common.{◌∙◌, ap, sym, subst, rules, refl}
+use Rattle.std.proofs.Common.{◌≡◌, ◌∙◌, ap, sym, subst, rules, refl}
 use Rattle.log_seams.proofs.MomentLemmas.{rests_on}
 use Rattle.search_walk.specs.Held.{Named, named}
 use Rattle.search_walk.specs.Opened.{NoFronts, ReadsFronts}

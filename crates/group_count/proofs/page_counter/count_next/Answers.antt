@@ -1,4 +1,6 @@
-use Rattle.std.proofs.Common.{rules}
+use Rattle.std.proofs.Common.{List, rules, subst, sym}
+use Rattle.subquery_filter.specs.declared.verdicts.Verdict.{Verdict}
+use Rattle.search_walk.specs.Ready.{IsReadyPage}
 use Rattle.search_walk.proofs.AnswerLemmas.{on_err}
 use Rattle.search_walk.proofs.PageLemmas.{past_page}
 use Rattle.group_count.specs.StepsCounted.{Passes, sofar}
@@ -9,7 +11,8 @@ pub returns-in_err-read_page-clause-stopped : goal.returns-in_err-read_page-clau
 returns-in_err-read_page-clause-stopped g c = on_err c.from_residual.result _ (λ name number. page_unread _ c.args.pages.now c.args.context.now.names c.args.context.now.query c.args.expanded.now name number)
 
 pub count_rows-requires-clause-ready : goal.count_rows-requires-clause-ready
-count_rows-requires-clause-ready g c = c.in_ok-read_page.ensures.page.ready
+count_rows-requires-clause-ready g c =
+    subst (λ (vs : List Verdict). IsReadyPage c.args.context.now.names c.args.context.now.query c.read_page.new.held c.read_page.new.room.columns.rows vs) (sym c.as_slice.ensures.value) c.in_ok-read_page.ensures.page.ready
 
 pub returns-in_err-count_rows-clause-stopped : goal.returns-in_err-count_rows-clause-stopped
 returns-in_err-count_rows-clause-stopped g c =

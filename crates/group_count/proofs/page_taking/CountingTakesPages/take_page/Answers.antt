@@ -15,6 +15,12 @@ returns-clause-done g c = if_ok_to c.count_next.result _ _ (λ rows past. past c
 pub returns-clause-stopped : goal.returns-clause-stopped
 returns-clause-stopped g c = on_err_to c.count_next.result _ _ (λ stops. stops c.args._label.name.now c.args._label.number) c.count_next.ensures.stopped
 
+pub count_next-requires-clause-next : goal.count_next-requires-clause-next
+count_next-requires-clause-next g c = record { page = c.requires.left.page; told = c.requires.told }
+
+pub count_rest-requires-clause-next : goal.count_rest-requires-clause-next
+count_rest-requires-clause-next g c = record { page = c.requires.left.page; told = c.requires.told }
+
 pub count_rest-requires-clause-all : goal.count_rest-requires-clause-all
 count_rest-requires-clause-all g c = c.requires.served.way.all (search rules)
 
