@@ -370,13 +370,12 @@ fn is_damaged<R: Threads + Sync>(
 
 /// How many workers there are, a place of the third segment whose byte is 9, and what is printed then:
 /// where the count of the variables is wrong, its page cannot be read; where there is no such log type,
-/// the row cannot be written. One worker has then not sent the lines that it found before, and of
-/// several those have that searched the segments before.
+/// the row cannot be written. The lines of the pages before are sent in both cases.
 const DAMAGES: &[(u32, usize, &[u8])] = &[
     (1, 421, b"a.log:1:run task_1 x\na.log:2:run task_2 x\n"),
     (2, 421, b"a.log:1:run task_1 x\na.log:2:run task_2 x\n"),
     (5, 421, b"a.log:1:run task_1 x\na.log:2:run task_2 x\n"),
-    (1, 417, b""),
+    (1, 417, b"a.log:1:run task_1 x\na.log:2:run task_2 x\n"),
     (2, 417, b"a.log:1:run task_1 x\na.log:2:run task_2 x\n"),
     (5, 417, b"a.log:1:run task_1 x\na.log:2:run task_2 x\n"),
 ];

@@ -1,7 +1,9 @@
 -- What a lane left, and what becomes of it.
-use Rattle.std.specs.Prelude.{Ok}
+use Rattle.std.specs.Prelude.{Err, IsErrOf, Ok, Result}
 use Rattle.std.proofs.Common.{◌≡◌, ℕ, ◌+◌, ◌<◌, ◌≤◌, ◌^◌, min, List, [], ◌++◌, length, map, Option, Some, None, refl, sym, ◌∙◌, ap, subst, arith}
 use Rattle.std.proofs.lemmas.List.{append-nil, append_assoc, length-map}
+use Rattle.log_seams.specs.Disk.{DiskState, Rests}
+use Rattle.log_seams.specs.Outside.{CountsOf}
 use Rattle.sink_pieces.specs.Output.{Grew, GrewByFront, Moves}
 use Rattle.archive_open.specs.declared.files.FileEntry.{FileEntry}
 use Rattle.archive_open.specs.declared.segments.SegmentPlace.{SegmentPlace}
@@ -11,13 +13,15 @@ use Rattle.printed_lines.specs.Lines.{Placed, lines_of}
 use Rattle.search_meaning.specs.Scan.{Asked, IsFound, IsTried}
 use Rattle.search_walk.specs.Held.{HaveMessages, Named}
 use Rattle.search_meaning.specs.Opened.{IsBarrenFor}
-use Rattle.search_walk.specs.Opened.{NoFronts}
+use Rattle.search_walk.specs.declared.refusal.SearchRefusal.{SearchRefusal}
+use Rattle.search_walk.specs.Opened.{NoFronts, ReadsFronts}
 use Rattle.search_walk.specs.StepsScope.{Scope, scope}
 use Rattle.search_walk.specs.Walked.{Searched, Stopped}
 use Rattle.search_walk.proofs.PickLemmas.{picks_once, picks_short}
 use Rattle.search_engine.specs.declared.counts.Counts.{Counts}
+use Rattle.search_engine.specs.declared.counts.LaneCounts.{LaneCounts}
 use Rattle.search_engine.specs.SegmentsDone.{SearchedFronts, StoppedFronts}
-use Rattle.search_engine.specs.Lanes.{IsFront, IsPrinted, LaneLeft, SearchedInto, StoppedInto, TakesLeft, left_of}
+use Rattle.search_engine.specs.Lanes.{IsFront, IsLaneSearch, IsPrinted, LaneLeft, SearchedInto, StoppedInto, TakesLeft, left_of}
 use Rattle.search_engine.specs.Sofar.{Goes, Passes, Stops, sofar}
 use Rattle.search_engine.specs.Waiting.{Blames, Halts, Pending, Reaches, State, WaitFor, no_counts, nothing_pending, sofar_of, state}
 use Rattle.search_engine.specs.StepsSofar.{front_more, front_second, ticks_same}
@@ -87,6 +91,50 @@ pub into_stopped : (seen : Option (List ℕ)) (n : Named) (files : List FileEntr
 into_stopped seen n files q fronts text y j k t u none stopped =
     fronts_all seen n files fronts (λ ps _ all. Stopped (λ l. Halts n q l (state (Some []) y j) (Some text) k) n q ps all t u) (λ ps _ all. Stopped (IsFront n q text) n q ps all 0 0)
     (λ ps bytes all is have s. record { halts = front_halts n q text y j k all none s.halts; most = λ opened are. omega arith }) stopped
+
+-- ---- the search of a lane, by its answer
+
+module _ (old new : DiskState) (s : Scope) (fronts : List SegmentFront) (text : List ℕ) where
+  pub lane_search_ok : (told : LaneCounts) → Rests old new → ReadsFronts old new s.names s.files s.query fronts → SearchedInto old.seen s fronts (left_of text told.counts told.opened (Ok tt)) → told.opened ≤ length fronts
+      → old.faults ≤ new.faults → new.faults ≡ old.faults → IsLaneSearch old new s fronts text (Ok told)
+  lane_search_ok told rests reads done most later steady = record {
+    rests = rests;
+    reads = reads;
+    done = done;
+    most = most;
+    stopped = tt;
+    damaged = λ is. absurd (cc (is));
+    counts = record { later = later; steady = steady; failed = λ is. absurd (cc (is)); spared = λ e is other. absurd (cc (is)) };
+  }
+
+  -- it was stopped among the segments, and its refusal is handed on
+  pub lane_search_err : (e : SearchRefusal) (r : Result LaneCounts SearchRefusal) → r ≡ Err e → Rests old new → ReadsFronts old new s.names s.files s.query fronts → StoppedInto old.seen s fronts text
+      → (IsErrOf {T = ℕ} (Err e) SearchRefusal.Damaged → NoFronts old.seen s.names s.files fronts) → CountsOf {T = ℕ} SearchRefusal.DiskFault old.faults new.faults (Err e) → IsLaneSearch old new s fronts text r
+  lane_search_err e r is_err rests reads stopped damaged counts = subst (IsLaneSearch old new s fronts text) (sym is_err)
+      (record {
+        rests = rests;
+        reads = reads;
+        done = tt;
+        most = tt;
+        stopped = stopped;
+        damaged = λ is. damaged (cc (is));
+        counts = record { later = counts.later; steady = tt; failed = λ is. counts.failed (cc (is)); spared = λ x is other. counts.spared x (cc (is)) other };
+      })
+
+  -- it was stopped when what was left was sent
+  pub lane_search_cut : (e : SearchRefusal) (r : Result LaneCounts SearchRefusal) → r ≡ Err e → Rests old new → ReadsFronts old new s.names s.files s.query fronts → StoppedInto old.seen s fronts text
+      → (IsErrOf {T = Unit {0}} (Err e) SearchRefusal.Damaged → NoFronts old.seen s.names s.files fronts) → old.faults ≤ new.faults → new.faults ≡ old.faults → ¬ IsErrOf {T = Unit {0}} (Err e) SearchRefusal.DiskFault
+      → IsLaneSearch old new s fronts text r
+  lane_search_cut e r is_err rests reads stopped damaged later steady stood = subst (IsLaneSearch old new s fronts text) (sym is_err)
+      (record {
+        rests = rests;
+        reads = reads;
+        done = tt;
+        most = tt;
+        stopped = stopped;
+        damaged = λ is. damaged (cc (is));
+        counts = record { later = later; steady = tt; failed = λ is. absurd (stood (cc (is))); spared = λ x is other. steady };
+      })
 
 -- ---- what a lane left is sent on
 

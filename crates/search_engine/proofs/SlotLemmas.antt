@@ -4,7 +4,7 @@ use Rattle.std.specs.Prelude.{Result, Ok, OnOk, IsErrOf, All}
 use Rattle.std.proofs.lemmas.List.{append-nil, map-append, take_all}
 use Rattle.std.proofs.Math.Seq.{drop-cons, take-add}
 use Rattle.column_store.specs.declared.row.Row.{Row}
-use Rattle.sink_pieces.specs.Output.{GrewByFront, Moves}
+use Rattle.sink_pieces.specs.Output.{Grew, GrewByFront, Moves}
 use Rattle.search_engine.specs.declared.refusal.PrintRefusal.{PrintRefusal}
 use Rattle.search_walk.specs.declared.refusal.SearchRefusal.{SearchRefusal}
 use Rattle.search_engine.specs.declared.counts.Counts.{Counts}
@@ -18,7 +18,7 @@ use Rattle.search_walk.specs.Ready.{IsReadyPage}
 use Rattle.search_engine.specs.Worked.{IsWorkedBy}
 use Rattle.search_walk.specs.Held.{AreRowsOf, Named}
 use Rattle.search_engine.specs.Waiting.{IsWorked, OfAllWorked, OfWorked, Page, PrintsPage, Slotted, WaitFor, no_counts, page, pages_of}
-use Rattle.search_engine.specs.StepsSofar.{front_none, passes_none, passes_on, stops_behind, stops_here, stops_more, ticks_same}
+use Rattle.search_engine.specs.StepsSofar.{passes_none, passes_on, stops_behind, stops_here, stops_more, ticks_same}
 use Rattle.search_walk.proofs.AnswerLemmas.{on_ok_to}
 use Rattle.search_walk.proofs.PickLemmas.{picks_once, picks_short}
 use Rattle.search_engine.specs.StepsWaiting.{waits_split}
@@ -108,12 +108,15 @@ slot_stops s w v g a k j n q messages prints front ticks are =
       most = ticks_same n.version q all k j ticks;
     }
 
--- it did not go through
-pub slot_refused : (s : Slotted) (w v : Option (List ℕ)) (g : List ℕ) (a : Counts) (k j : ℕ) (n : Named) (q : Asked) (messages : List (List ℕ)) → v ≡ w → j ≡ k
+pub front_all : (old new : Option (List ℕ)) (text : List ℕ) → Grew old new text → GrewByFront old new text
+front_all old new text grew = (text, [], sym (append-nil text), grew)
+
+-- it did not go through: at most what was gathered before went out
+pub slot_refused : (s : Slotted) (w v : Option (List ℕ)) (g : List ℕ) (a : Counts) (k j : ℕ) (n : Named) (q : Asked) (messages : List (List ℕ)) → GrewByFront w v g → j ≡ k
     → Stops n.version q (numbered s.page.name s.page.number messages) (sofar w g a k) v j
-slot_refused s w v g a k j n q messages same ticks =
+slot_refused s w v g a k j n q messages front ticks =
     let all = numbered s.page.name s.page.number messages in
-    stops_here n.version q all (sofar w g a k) v j (front_none w v g same) (ticks_same n.version q all k j ticks)
+    stops_here n.version q all (sofar w g a k) v j front (ticks_same n.version q all k j ticks)
 
 pub on_ok : {T E : Type 0} (r : Result T E) (t : T) (P : Type 0) → r ≡ Ok t → OnOk r P → P
 on_ok {T} {E} r t P is has = subst (λ (x : Result T E). OnOk x P) is has

@@ -16,8 +16,9 @@ use Rattle.search_walk.specs.Held.{HaveMessages, Named, OfSegments, named}
 use Rattle.search_walk.specs.Opened.{IsRead, NoFronts, OfFronts, ReadsFronts, ReadsOpened}
 use Rattle.search_walk.specs.StepsScope.{Scope, scope}
 use Rattle.search_walk.proofs.RunLemmas.{reads_joined}
-use Rattle.search_engine.specs.declared.counts.Counts.{Counts}
-use Rattle.search_engine.specs.Lanes.{FaultsOf, IsFresh, IsLane, IsLaneRun, IsLaneWorked, IsWell, LaneLeft, LaneView, PartReads, SearchedInto, StoppedInto, fronts_of, given, left_of, scope_of}
+use Rattle.search_engine.specs.declared.counts.LaneCounts.{LaneCounts}
+use Rattle.search_engine.specs.Refused.{in_text}
+use Rattle.search_engine.specs.Lanes.{FaultsOf, IsFresh, IsLane, IsLaneRun, IsLaneSearch, IsLaneWorked, IsWell, LaneLeft, LaneView, PartReads, SearchedInto, StoppedInto, fronts_of, given, left_of, scope_of}
 use Rattle.log_seams.specs.Parts.{no_ranges}
 use Rattle.search_engine.proofs.FrontsLemmas.{have_both, parted}
 use Rattle.search_engine.proofs.LaneListLemmas.{all_fronts}
@@ -196,23 +197,38 @@ pub well_not : (r : Result (Unit {0}) SearchRefusal) → IsErr r → OnErr r ⊥
 well_not (Ok t) is well = absurd (cc (is))
 well_not (Err e) is well = well
 
-pub lane_run_ok : {P T : Type 0} (state : P → DiskState) (x old : LaneView P) (part : P) (text : List ℕ) (counts : Counts) (opened : ℕ) (told : T) → x ≡ old → length x.fronts ≤ 65536 → Rests (state x.part) (state part)
-    → ReadsFronts (state x.part) (state part) (scope_of state x).names x.files x.query x.fronts → CountsOf {T = T} SearchRefusal.DiskFault (state x.part).faults (state part).faults (Ok told)
-    → SearchedInto (state x.part).seen (scope_of state x) x.fronts (left_of text counts opened (Ok tt)) → IsWell old → IsLaneRun state old (record x { part = part; left = left_of text counts opened x.left.answer })
-lane_run_ok state x old part text counts opened told same few rests reads tallied done well =
+pub lane_run_ok : {P : Type 0} (state : P → DiskState) (x old : LaneView P) (part : P) (text : List ℕ) (told : LaneCounts) → x ≡ old → length x.fronts ≤ 65536
+    → IsLaneSearch (state x.part) (state part) (scope_of state x) x.fronts text (Ok told) → IsWell old → IsLaneRun state old (record x { part = part; left = left_of text told.counts told.opened x.left.answer })
+lane_run_ok state x old part text told same few ran well =
     let is : x.left.answer ≡ Ok tt = well_is x.left.answer (subst IsWell (sym same) well) in
-    subst (λ (r : Result (Unit {0}) SearchRefusal). IsLaneRun state old (record x { part = part; left = left_of text counts opened r })) (sym is)
-    (lane_run_is state x old part (left_of text counts opened (Ok tt)) same few rests reads
-    (record { later = tallied.later; steady = tallied.steady; failed = λ no. absurd (cc (no)); spared = λ e no other. absurd (cc (no)) }) (λ no. absurd (cc (no))) done tt (λ no. absurd (cc (no))))
+    subst (λ (r : Result (Unit {0}) SearchRefusal). IsLaneRun state old (record x { part = part; left = left_of text told.counts told.opened r })) (sym is)
+    (lane_run_is state x old part (left_of text told.counts told.opened (Ok tt)) same few ran.rests ran.reads
+    (record { later = ran.counts.later; steady = ran.counts.steady; failed = λ no. absurd (cc (no)); spared = λ e no other. absurd (cc (no)) }) (λ no. absurd (cc (no))) ran.done tt (λ no. absurd (cc (no))))
 
-pub lane_run_err : {P T : Type 0} (state : P → DiskState) (x old : LaneView P) (part : P) (text : List ℕ) (e : SearchRefusal) → x ≡ old → length x.fronts ≤ 65536 → Rests (state x.part) (state part)
-    → ReadsFronts (state x.part) (state part) (scope_of state x).names x.files x.query x.fronts → CountsOf {T = T} SearchRefusal.DiskFault (state x.part).faults (state part).faults (Err e)
-    → ¬ IsErrOf {T = T} (Err e) SearchRefusal.SinkFault → StoppedInto (state x.part).seen (scope_of state x) x.fronts text
-    → (IsErrOf {T = T} (Err e) SearchRefusal.Damaged → NoFronts (state x.part).seen (scope_of state x).names x.files x.fronts)
-    → IsLaneRun state old (record x { part = part; left = left_of text x.left.counts x.left.opened (Err e) })
-lane_run_err state x old part text e same few rests reads tallied sink stopped damaged =
-    lane_run_is state x old part (left_of text x.left.counts x.left.opened (Err e)) same few rests reads
-    (record { later = tallied.later; steady = tt; failed = λ is. tallied.failed (cc (is)); spared = λ y is other. tallied.spared y (cc (is)) other }) (λ is. sink (cc (is))) tt stopped (λ is. damaged (cc (is)))
+-- a refusal of a search into a text
+text_counts : {A B : Type 0} (old new : ℕ) (e : SearchRefusal) → CountsOf {T = A} SearchRefusal.DiskFault old new (Err e) → CountsOf {T = B} SearchRefusal.DiskFault old new (Err (in_text e))
+text_counts old new SearchRefusal.DiskFault counts = record { later = counts.later; steady = tt; failed = λ is. counts.failed refl; spared = λ x is other. counts.spared x (cc (is)) other }
+text_counts old new SearchRefusal.SinkFault counts = record { later = counts.later; steady = tt; failed = λ is. absurd (cc (is)); spared = λ x is other. counts.spared SearchRefusal.SinkFault refl (λ no. absurd (cc (no))) }
+text_counts old new SearchRefusal.Damaged counts = record { later = counts.later; steady = tt; failed = λ is. absurd (cc (is)); spared = λ x is other. counts.spared x (cc (is)) other }
+text_counts old new SearchRefusal.OutOfMemory counts = record { later = counts.later; steady = tt; failed = λ is. absurd (cc (is)); spared = λ x is other. counts.spared x (cc (is)) other }
+
+text_damaged : {A B : Type 0} (e : SearchRefusal) → IsErrOf {T = A} (Err (in_text e)) SearchRefusal.Damaged → IsErrOf {T = B} (Err e) SearchRefusal.Damaged
+text_damaged SearchRefusal.DiskFault is = absurd (cc (is))
+text_damaged SearchRefusal.SinkFault is = absurd (cc (is))
+text_damaged SearchRefusal.Damaged is = refl
+text_damaged SearchRefusal.OutOfMemory is = absurd (cc (is))
+
+text_sink : {A : Type 0} (e : SearchRefusal) → ¬ IsErrOf {T = A} (Err (in_text e)) SearchRefusal.SinkFault
+text_sink SearchRefusal.DiskFault = λ is. absurd (cc (is))
+text_sink SearchRefusal.SinkFault = λ is. absurd (cc (is))
+text_sink SearchRefusal.Damaged = λ is. absurd (cc (is))
+text_sink SearchRefusal.OutOfMemory = λ is. absurd (cc (is))
+
+pub lane_run_err : {P : Type 0} (state : P → DiskState) (x old : LaneView P) (part : P) (text : List ℕ) (e : SearchRefusal) → x ≡ old → length x.fronts ≤ 65536
+    → IsLaneSearch (state x.part) (state part) (scope_of state x) x.fronts text (Err e) → IsLaneRun state old (record x { part = part; left = left_of text x.left.counts x.left.opened (Err (in_text e)) })
+lane_run_err state x old part text e same few ran =
+    lane_run_is state x old part (left_of text x.left.counts x.left.opened (Err (in_text e))) same few ran.rests ran.reads
+    (text_counts (state x.part).faults (state part).faults e ran.counts) (text_sink e) tt ran.stopped (λ is. ran.damaged (text_damaged e is))
 
 other_error : {A B : Type 0} (e x : SearchRefusal) → IsErrOf {T = A} (Err e) x → IsErrOf {T = B} (Err e) x
 other_error e x is = cc (is)

@@ -1,5 +1,5 @@
 -- Lanes: each searches segments of its own over its part of the disk, into a text.
-use Rattle.std.specs.Prelude.{◌≡◌, ◌<◌, ◌≤◌, ◌+◌, ℕ, List, [], ◌++◌, length, Option, Result, OnOk, OnErr, IsErrOf, All}
+use Rattle.std.specs.Prelude.{◌≡◌, ◌<◌, ◌≤◌, ◌+◌, ℕ, List, [], ◌++◌, length, Option, Result, Ok, IfOk, OnOk, OnErr, IsErrOf, All}
 use Rattle.std.specs.List.{Contains, flat_map}
 use Rattle.log_seams.specs.Disk.{DiskState, Rests}
 use Rattle.log_seams.specs.Outside.{CountsOf}
@@ -16,6 +16,7 @@ use Rattle.search_walk.specs.Opened.{NoFronts, OfFronts, ReadsFronts, ReadsOpene
 use Rattle.search_walk.specs.StepsScope.{Scope, scope}
 use Rattle.search_walk.specs.Walked.{SearchedFronts, StoppedFronts}
 use Rattle.search_engine.specs.declared.counts.Counts.{Counts}
+use Rattle.search_engine.specs.declared.counts.LaneCounts.{LaneCounts}
 use Rattle.search_engine.specs.Sofar.{Counted}
 use Rattle.search_engine.specs.Waiting.{State, no_counts}
 
@@ -53,6 +54,20 @@ SearchedInto seen s fronts left = SearchedFronts (IsPrinted s.names s.query left
 
 abbrev pub StoppedInto : Option (List ℕ) → Scope → List SegmentFront → List ℕ → Type 0
 StoppedInto seen s fronts text = StoppedFronts (IsFront s.names s.query text) seen s.names s.files s.query fronts 0 0
+
+-- a part of the disk was searched for what stands in these segments, with this text and this answer
+pub record IsLaneSearch (old new : DiskState) (s : Scope) (fronts : List SegmentFront) (text : List ℕ)
+    (r : Result LaneCounts SearchRefusal) : Type 0 where
+  -- what stays
+  pub rests : Rests old new
+  pub reads : ReadsFronts old new s.names s.files s.query fronts
+  -- by the answer
+  pub done : IfOk r (λ told. SearchedInto old.seen s fronts (left_of text told.counts told.opened (Ok tt)))
+  pub most : IfOk r (λ told. told.opened ≤ length fronts)
+  pub stopped : OnErr r (StoppedInto old.seen s fronts text)
+  -- causes
+  pub damaged : IsErrOf r SearchRefusal.Damaged → NoFronts old.seen s.names s.files fronts
+  pub counts : CountsOf SearchRefusal.DiskFault old.faults new.faults r
 
 -- ---- a lane
 

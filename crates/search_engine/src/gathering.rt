@@ -50,7 +50,8 @@ pub(crate) fn tick_times<M: Ledger>(times: u64, expanded: &mut Steps<M>)
     }
 }
 
-/// Sends on what the search of a page left.
+/// Sends on what the search of a page left. Where it did not go through, what the pages before it left is sent
+/// out first.
 fn gather<K: Sink, M: Ledger>(
     slot: &PageSlot,
     out: &mut K,
@@ -72,7 +73,10 @@ fn gather<K: Sink, M: Ledger>(
     ensures sink_counts { CountsOf SearchRefusal.SinkFault
         (K.faults out.old) (K.faults out.new) result }
 {
-    slot.answer()?;
+    if let Err(refusal) = slot.answer() {
+        flush(out, gathered)?;
+        return Err(SearchRefusal::from(refusal));
+    }
     put_text(out, gathered, slot.text())?;
     let own = slot.counts();
     tick_times(own.expanded, expanded);

@@ -1,19 +1,17 @@
 //! A lane: it searches segments of its own over its part of the disk, as one worker does, into a text.
-ghost use Rattle.std.specs.Prelude.{◌≡◌, ◌≤◌, [], length, IfOk, OnErr, IsErrOf, Ok};
-ghost use Rattle.log_seams.specs.Disk.{Rests};
-ghost use Rattle.log_seams.specs.Outside.{CountsOf};
+ghost use Rattle.std.specs.Prelude.{◌≡◌, ◌≤◌, [], length, IfOk, IsErrOf, Ok};
 ghost use Rattle.step_count.specs.Opens.{OpensFor};
 ghost use Rattle.search_walk.specs.Held.{named};
-ghost use Rattle.search_walk.specs.Opened.{NoFronts, ReadsFronts};
 ghost use Rattle.search_walk.specs.Ready.{Serves};
 ghost use Rattle.search_walk.specs.StepsScope.{IsScope, scope};
-ghost use Rattle.search_engine.specs.Lanes.{IsLaneRun, IsWell, given, SearchedInto, StoppedInto, left_of};
+ghost use Rattle.search_engine.specs.Lanes.{IsLaneRun, IsLaneSearch, IsWell, given, left_of};
 ghost use Rattle.search_engine.specs.Waiting.{no_counts};
 
-use crate::counts::Counts;
+use crate::counts::{Counts, LaneCounts};
 use crate::page_batch::PageBatch;
 use crate::page_slot::NO_COUNTS;
 use crate::page_taking::print_segments;
+use crate::refusal::in_text;
 use crate::text_sink::TextSink;
 use archive_open::FileEntry;
 use archive_places::SegmentFront;
@@ -37,14 +35,8 @@ pub(crate) struct LaneScope<'q> {
     pub(crate) found: &'q [Option<u32>],
 }
 
-/// What the search of a lane's segments left.
-#[derive(Clone, Copy)]
-struct LaneCounts {
-    counts: Counts,
-    opened: u64,
-}
-
-/// Searches segments as one worker does, into a text that is empty, with counters of its own.
+/// Searches segments as one worker does, over a part of the disk and into a text that is empty, with counters
+/// of its own. A text that cannot grow is a fault of the output.
 fn search_into<P: Disk, L: Ledger, M: Ledger>(
     lane: LaneScope<'_>,
     first: &HeldWords,
@@ -60,29 +52,12 @@ fn search_into<P: Disk, L: Ledger, M: Ledger>(
         lane.query.now lane.layouts.now lane.filter.now lane.found.now }
     requires serves { Serves (named (P.state part.old).seen first.now) held.old }
     requires empty { sink.old.text.items ≡ [] }
-
-    // what stays
-    ensures rests { Rests (P.state part.old) (P.state part.new) }
-    ensures reads { ReadsFronts (P.state part.old) (P.state part.new)
-        (named (P.state part.old).seen first.now)
-        lane.entry.files.now lane.entry.query.now fronts.now }
     ensures serves { IfOk result
         (λ _. Serves (named (P.state part.old).seen first.now) held.new) }
-
-    // by the answer
-    ensures done { IfOk result (λ told. SearchedInto (P.state part.old).seen
-        (scope (named (P.state part.old).seen first.now) lane.entry.query.now lane.entry.files.now)
-        fronts.now (left_of sink.new.text.items told.counts told.opened (Ok tt))) }
-    ensures stopped { OnErr result (StoppedInto (P.state part.old).seen
-        (scope (named (P.state part.old).seen first.now) lane.entry.query.now lane.entry.files.now)
-        fronts.now sink.new.text.items) }
-
-    // causes
-    ensures damaged { IsErrOf result SearchRefusal.Damaged → NoFronts (P.state part.old).seen
-        (named (P.state part.old).seen first.now) lane.entry.files.now fronts.now }
-    ensures counts { CountsOf SearchRefusal.DiskFault
-        (P.state part.old).faults (P.state part.new).faults result }
-    ensures most { IfOk result (λ told. told.opened ≤ length fronts.now) }
+    ensures ran { IsLaneSearch (P.state part.old) (P.state part.new)
+        (scope (named (P.state part.old).seen first.now)
+        lane.entry.query.now lane.entry.files.now)
+        fronts.now sink.new.text.items result }
 {
     let mut opened: Steps<L> = Steps::new(one);
     let mut expanded: Steps<M> = Steps::new(two);
@@ -111,54 +86,6 @@ fn search_into<P: Disk, L: Ledger, M: Ledger>(
         counts: batch.counts(),
         opened: count.min(fronts.len() as u64),
     })
-}
-
-/// The same, where a text that cannot grow is want of memory.
-fn search_text<P: Disk, L: Ledger, M: Ledger>(
-    lane: LaneScope<'_>,
-    first: &HeldWords,
-    fronts: &[SegmentFront],
-    part: &mut P,
-    held: &mut HeldWords,
-    sink: &mut TextSink,
-    one: Blank,
-    two: Blank,
-) -> Result<LaneCounts, SearchRefusal>
-    requires blanks { OpensFor one L.name L.parts × OpensFor two M.name M.parts }
-    requires scope { IsScope (named (P.state part.old).seen first.now)
-        lane.query.now lane.layouts.now lane.filter.now lane.found.now }
-    requires serves { Serves (named (P.state part.old).seen first.now) held.old }
-
-    // what stays
-    ensures rests { Rests (P.state part.old) (P.state part.new) }
-    ensures reads { ReadsFronts (P.state part.old) (P.state part.new)
-        (named (P.state part.old).seen first.now)
-        lane.entry.files.now lane.entry.query.now fronts.now }
-    ensures serves { IfOk result
-        (λ _. Serves (named (P.state part.old).seen first.now) held.new) }
-
-    // by the answer
-    ensures done { IfOk result (λ told. SearchedInto (P.state part.old).seen
-        (scope (named (P.state part.old).seen first.now) lane.entry.query.now lane.entry.files.now)
-        fronts.now (left_of sink.new.text.items told.counts told.opened (Ok tt))) }
-    ensures stopped { OnErr result (StoppedInto (P.state part.old).seen
-        (scope (named (P.state part.old).seen first.now) lane.entry.query.now lane.entry.files.now)
-        fronts.now sink.new.text.items) }
-
-    // causes
-    ensures damaged { IsErrOf result SearchRefusal.Damaged → NoFronts (P.state part.old).seen
-        (named (P.state part.old).seen first.now) lane.entry.files.now fronts.now }
-    ensures counts { CountsOf SearchRefusal.DiskFault
-        (P.state part.old).faults (P.state part.new).faults result }
-    ensures sink { ¬ IsErrOf result SearchRefusal.SinkFault }
-    ensures most { IfOk result (λ told. told.opened ≤ length fronts.now) }
-{
-    sink.text.clear();
-    match search_into::<P, L, M>(lane, first, fronts, part, held, sink, one, two) {
-        Ok(told) => Ok(told),
-        Err(SearchRefusal::SinkFault) => Err(SearchRefusal::OutOfMemory),
-        Err(refusal) => Err(refusal),
-    }
 }
 
 /// A lane of a search. The words that it reads it keeps.
@@ -304,7 +231,8 @@ impl<'q, P: Disk> Lane<'q, P> {
         if self.answer.is_err() {
             return;
         }
-        let searched = search_text::<P, Brand, Brand>(
+        self.sink.text.clear();
+        let searched = search_into::<P, Brand, Brand>(
             self.scope,
             self.first,
             self.fronts,
@@ -316,7 +244,7 @@ impl<'q, P: Disk> Lane<'q, P> {
         );
         match searched {
             Ok(told) => self.told = told,
-            Err(refusal) => self.answer = Err(refusal),
+            Err(refusal) => self.answer = Err(in_text(refusal)),
         }
     }
 }

@@ -1,7 +1,7 @@
-//! Why rows were not printed.
+//! Why rows were not printed, and segments not searched.
 ghost use Rattle.std.specs.Prelude.{◌≡◌};
 ghost use Rattle.search_engine.specs.declared.refusal.PrintRefusal.TheVariants.{OutOfMemory as NoMemory};
-ghost use Rattle.search_engine.specs.Refused.{from_print};
+ghost use Rattle.search_engine.specs.Refused.{in_text, from_print};
 
 use search_walk::SearchRefusal;
 use std::alloc::AllocError;
@@ -34,5 +34,15 @@ impl From<PrintRefusal> for SearchRefusal {
             PrintRefusal::Damaged => SearchRefusal::Damaged,
             PrintRefusal::OutOfMemory => SearchRefusal::OutOfMemory,
         }
+    }
+}
+
+/// The refusal of a search into a text: one that cannot grow is want of memory.
+pub(crate) fn in_text(refusal: SearchRefusal) -> SearchRefusal
+    ensures { result ≡ in_text refusal }
+{
+    match refusal {
+        SearchRefusal::SinkFault => SearchRefusal::OutOfMemory,
+        other => other,
     }
 }

@@ -7,10 +7,11 @@ returns-then-is_err g c = λ well. absurd (well_not c.args.self.now.left.answer 
 
 pub returns-in-Ok : goal.returns-in-Ok
 returns-in-Ok g c = λ well.
-    let t = c.search_text-searched in
-    lane_run_ok g.P.Disk.state _ c.args.self.now t.new.part t.new.sink.text.items c.in-Ok.told.counts c.in-Ok.told.opened c.in-Ok.told c.self.view_is (search rules) t.ensures.rests t.ensures.reads c.in-Ok.ensures.counts c.in-Ok.ensures.done well
+    let t = c.search_into-searched in
+    lane_run_ok g.P.Disk.state _ c.args.self.now t.new.part t.new.sink.text.items c.in-Ok.told c.self.view_is (search rules) c.in-Ok.ensures.ran well
 
 pub returns-in-Err : goal.returns-in-Err
 returns-in-Err g c = λ well.
-    let t = c.search_text-searched in
-    lane_run_err g.P.Disk.state _ c.args.self.now t.new.part t.new.sink.text.items c.in-Err.refusal c.self.view_is (search rules) t.ensures.rests t.ensures.reads c.in-Err.ensures.counts c.in-Err.ensures.sink c.in-Err.ensures.stopped c.in-Err.ensures.damaged
+    let t = c.search_into-searched in
+    subst (λ (e : SearchRefusal). IsLaneRun g.P.Disk.state c.args.self.now (record c.args.self.now { part = t.new.part; left = left_of t.new.sink.text.items c.args.self.now.left.counts c.args.self.now.left.opened (Err e) })) (sym c.in_text-in-Err.ensures)
+    (lane_run_err g.P.Disk.state _ c.args.self.now t.new.part t.new.sink.text.items c.in-Err.refusal c.self.view_is (search rules) c.in-Err.ensures.ran)
