@@ -6,12 +6,16 @@ use native.Mathlib.Decide.{ℕ_discrete}
 use Rattle.std.proofs.lemmas.List.{append-nil, append_assoc, get_or_default, take_all}
 use Rattle.std.proofs.lemmas.List.Concat.{flat_map-append}
 use Rattle.std.proofs.Math.Seq.{drop-cons, take-add}
+use Rattle.log_seams.specs.Disk.{DiskState}
 use Rattle.archive_places.specs.declared.front.SegmentFront.{SegmentFront}
+use Rattle.word_places.specs.Held.{HeldNames}
+use Rattle.search_walk.specs.Held.{Named}
+use Rattle.search_walk.specs.Ready.{Serves}
 use Rattle.search_walk.specs.declared.refusal.SearchRefusal.{SearchRefusal}
 use Rattle.search_walk.specs.Opened.{NoFronts}
 use Rattle.search_walk.specs.StepsScope.{Scope}
 use Rattle.search_engine.specs.SegmentsDone.{SearchedFronts, StoppedFronts}
-use Rattle.search_engine.specs.Lanes.{IsLaneWorked, IsWell, LaneView, fronts_of, given}
+use Rattle.search_engine.specs.Lanes.{HaveNames, IsLaneWorked, IsWell, LaneView, ServesLanes, fronts_of, given, scope_of}
 use Rattle.search_engine.specs.Waiting.{Halts, Reaches, State}
 use Rattle.search_engine.specs.StepsWaiting.{halts_behind, halts_more, reaches_none, reaches_on}
 use Rattle.search_engine.proofs.FrontsLemmas.{fronts_none, fronts_on, fronts_stop, fronts_stop_more, none_first, none_second}
@@ -184,6 +188,46 @@ module _ {P : Type 0} where
     parts = all.parts ∙ ap (λ (xs : List (LaneView P)). fronts_of xs ++ rest) (take_all k now end);
     less = λ some filled. all.less (omega (arith, some, end, all.len)) filled;
     kept = λ i d lt. all.done i d (omega (arith, lt, end, all.len)) lt;
+  }
+
+-- ---- words are shared
+
+set_back : {A : Type 0} (xs : List A) (k : ℕ) (y e : A) → k < length xs → y ≡ get_or xs k e → set xs k y ≡ xs
+set_back [] k y e lt is = absurd (omega (arith, lt))
+set_back (x ∷ xs) zero y e lt is = ap (λ z. z ∷ xs) is
+set_back {A = A} (x ∷ xs) (suc k) y e lt is = ap (λ (l : List A). x ∷ l) (set_back xs k y e (omega (arith, lt)) is)
+
+module _ {P : Type 0} (state : P → DiskState) where
+  -- the first lanes have passed their words on
+  pub record HavePassed (old now : List (LaneView P)) (all held : HeldNames) : Type 0 where
+    pub lanes : now ≡ old
+    pub serves : (n : Named) → HaveNames state n old → Serves n all → Serves n held
+
+  pub passed_first : (lanes : List (LaneView P)) (all : HeldNames) → HavePassed lanes lanes all all
+  passed_first lanes all = record { lanes = refl; serves = λ n have serves. serves }
+
+  pub passed_well : (old now : List (LaneView P)) (all held : HeldNames) (k : ℕ) (e : LaneView P) → k < length now → All IsWell old → HavePassed old now all held → IsWell (get_or now k e)
+  passed_well old now all held k e lt well passed = subst (λ (l : List (LaneView P)). All IsWell l) (sym passed.lanes) well k e lt
+
+  names_at : (old now : List (LaneView P)) (n : Named) (k : ℕ) (e : LaneView P) → k < length now → now ≡ old → HaveNames state n old → (scope_of state (get_or now k e)).names ≡ n
+  names_at old now n k e lt same have = subst (λ (l : List (LaneView P)). HaveNames state n l) (sym same) have k e lt
+
+  pub passed_names : (old now : List (LaneView P)) (all held : HeldNames) (k : ℕ) (e : LaneView P) → k < length now → ServesLanes state all old → HavePassed old now all held → Serves (scope_of state (get_or now k e)).names held
+  passed_names old now all held k e lt has passed =
+      subst (λ (n : Named). Serves n held) (sym (names_at old now has.names k e lt passed.lanes has.have)) (passed.serves has.names has.have has.serves)
+
+  pub passed_next : (old now : List (LaneView P)) (all held later : HeldNames) (k : ℕ) (y e : LaneView P) → k < length now → y ≡ get_or now k e → Serves (scope_of state (get_or now k e)).names later → HavePassed old now all held
+      → HavePassed old (set now k y) all later
+  passed_next old now all held later k y e lt is served passed = record {
+    lanes = set_back now k y e lt is ∙ passed.lanes;
+    serves = λ n have serves. subst (λ (m : Named). Serves m later) (names_at old now n k e lt passed.lanes have) served;
+  }
+
+  pub serves_on : (old now : List (LaneView P)) (all held : HeldNames) → now ≡ old → ServesLanes state all old → ((n : Named) → HaveNames state n old → Serves n all → Serves n held) → ServesLanes state held now
+  serves_on old now all held same has on = record {
+    names = has.names;
+    serves = on has.names has.have has.serves;
+    have = subst (λ (l : List (LaneView P)). HaveNames state has.names l) (sym same) has.have;
   }
 
 pub split_both : (rest : List SegmentFront) (k : ℕ) (a b : List SegmentFront) → a ≡ take k rest → b ≡ drop k rest → rest ≡ a ++ b

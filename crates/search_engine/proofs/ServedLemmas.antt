@@ -1,7 +1,7 @@
 -- Pages that wait, and the words that are held for them.
-use Rattle.std.proofs.Common.{◌≡◌, ◌<◌, ◌∙◌, ℕ, List, [], ◌∷◌, ◌++◌, length, get_or, All, ap, sym, subst}
+use Rattle.std.proofs.Common.{◌≡◌, ◌<◌, ◌∙◌, ℕ, List, [], ◌∷◌, ◌++◌, length, get_or, Option, All, ap, sym, subst}
 use Rattle.std.proofs.lemmas.List.Elements.{All-cons, All-head, All-nil, All-tail}
-use Rattle.word_places.specs.Held.{Grow, HeldNames}
+use Rattle.word_places.specs.Held.{AreNumbered, Grow, HeldNames, RightTold, places_of}
 use Rattle.search_meaning.specs.Scan.{Asked}
 use Rattle.search_walk.specs.Held.{Named}
 use Rattle.search_engine.specs.Served.{AreReadyPages, IsServed}
@@ -52,3 +52,14 @@ round_worked n q asked held by old new sent items pages same words long each wor
       subst (λ (l : List Slotted). All (IsWorked n q) l) (sym is) (all_worked n q held new (subst (λ (h : HeldNames). All (IsWorkedBy q h) new) words (subst (λ (x : Asked). All (IsWorkedBy x by) new) same worked)) own),
       ap pages_of is ∙ kept,
     )
+
+-- ---- words of a share
+
+pub serves_taken : (n : Named) (all own new : HeldNames) → Serves n all → Serves n own → new.types ≡ all.types → places_of new.records ≡ places_of all.records → AreNumbered 0 new.records
+    → ((told : Option (List ℕ)) → RightTold told all.records → RightTold told own.records → RightTold told new.records) → Serves n new
+serves_taken n all own new whole part types places numbered right = record {
+  types = types ∙ whole.types;
+  places = places ∙ whole.places;
+  numbered = numbered;
+  right = right n.told whole.right part.right;
+}

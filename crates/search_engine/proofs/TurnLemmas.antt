@@ -135,6 +135,12 @@ module _ {P : Type 0} (state : P → DiskState) where
             lane_ran disk s (gone ++ fronts) (gone ++ front) (rest ++ left) (get_or old k d) m (get_or new k d) (fresh k d (omega (arith, lt, long, len))) (lanes k d (omega (arith, lt, long, len))) (kept k d (omega (arith, lt, long, len)))
             (runs k d inside) cut
 
+-- lanes that did not change, of segments by their parts
+pub lanes_here : {P : Type 0} (state : P → DiskState) (disk : DiskState) (s : Scope) (fronts parts : List SegmentFront) (was lanes : List (LaneView P)) → fronts ≡ parts → lanes ≡ was → All (IsLane state disk s fronts) was
+    → All (IsLane state disk s parts) lanes
+lanes_here {P = P} state disk s fronts parts was lanes cut kept all =
+    subst (λ (l : List (LaneView P)). All (IsLane state disk s parts) l) (sym kept) (subst (λ (f : List SegmentFront). All (IsLane state disk s f) was) cut all)
+
 pub fresh_behind : {P : Type 0} (state : P → DiskState) (lanes : List (LaneView P)) → All IsWell lanes → All (λ l. (state l.part).faults ≡ 0) lanes → All (IsFresh state) lanes
 fresh_behind state lanes well none k d lt = record { well = well k d lt; faults = none k d lt }
 

@@ -13,6 +13,7 @@ use Rattle.search_walk.specs.declared.refusal.SearchRefusal.{SearchRefusal}
 use Rattle.search_meaning.specs.Scan.{AreFound, AreTried, Asked}
 use Rattle.search_walk.specs.Held.{Named, OfSegments, named}
 use Rattle.search_walk.specs.Opened.{NoFronts, OfFronts, ReadsFronts, ReadsOpened}
+use Rattle.search_walk.specs.Ready.{Serves}
 use Rattle.search_walk.specs.StepsScope.{Scope, scope}
 use Rattle.search_walk.specs.Walked.{SearchedFronts, StoppedFronts}
 use Rattle.search_engine.specs.declared.counts.Counts.{Counts}
@@ -107,6 +108,16 @@ given l fronts = record l { fronts = fronts; left = left_of [] no_counts 0 l.lef
 -- a lane that may run: it was not stopped
 abbrev pub IsWell : {P : Type 0} → LaneView P → Type 0
 IsWell l = OnErr l.left.answer ⊥
+
+-- the lanes go over words of these names
+abbrev pub HaveNames : {P : Type 0} → (P → DiskState) → Named → List (LaneView P) → Type 0
+HaveNames state n lanes = All (λ l. (scope_of state l).names ≡ n) lanes
+
+-- the words that are held are those of each lane
+pub record ServesLanes {P : Type 0} (state : P → DiskState) (held : HeldNames) (lanes : List (LaneView P)) : Type 0 where
+  pub names : Named
+  pub serves : Serves names held
+  pub have : HaveNames state names lanes
 
 -- the segments of lanes, one after the other
 abbrev pub fronts_of : {P : Type 0} → List (LaneView P) → List SegmentFront

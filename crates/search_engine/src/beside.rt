@@ -4,6 +4,7 @@ ghost use Rattle.log_seams.specs.Disk.{Rests};
 ghost use Rattle.log_seams.specs.Outside.{CountsOf};
 ghost use Rattle.search_walk.specs.Held.{named};
 ghost use Rattle.search_walk.specs.Opened.{NoFronts, ReadsFronts};
+ghost use Rattle.search_walk.specs.Ready.{Serves};
 ghost use Rattle.search_walk.specs.StepsScope.{IsScope, Scope, scope};
 ghost use Rattle.search_engine.specs.Lanes.{IsFresh, IsLane};
 ghost use Rattle.search_engine.specs.Over.{IsServedOver};
@@ -15,6 +16,7 @@ use crate::page_batch::PageBatch;
 use crate::page_taking::print_segments;
 use crate::parts::{lend_lanes, take_back_all};
 use crate::turns::search_turns;
+use archive_open::FileEntry;
 use archive_places::SegmentFront;
 use log_seams::{Disk, SharedDisk, Sink};
 use search_walk::{Context, SearchRefusal};
@@ -42,6 +44,7 @@ pub(crate) struct Crew<'a, 'q, R, D: Disk> {
 fn search_lent<'q, R: Threads + Sync, D: SharedDisk, K: Sink, L: Ledger, M: Ledger>(
     rt: &R,
     mut lanes: Vec<Lane<'q, D::Part>>,
+    mut all: HeldWords,
     fronts: &'q [SegmentFront],
     disk: &mut D,
     out: &mut K,
@@ -52,6 +55,8 @@ fn search_lent<'q, R: Threads + Sync, D: SharedDisk, K: Sink, L: Ledger, M: Ledg
     requires empty { batch.old.pages ≡ [] }
     requires some { 0 < length lanes.items }
     requires fresh { All (IsFresh D.Part.state) lanes.items }
+    requires lanes { (s : Scope) × Serves s.names all
+        × All (IsLane D.Part.state (D.Disk.state disk.old) s fronts.now) lanes.items }
 
     // what stays
     ensures rests { Rests (D.Disk.state disk.old) (D.Disk.state disk.new) }
@@ -86,6 +91,7 @@ fn search_lent<'q, R: Threads + Sync, D: SharedDisk, K: Sink, L: Ledger, M: Ledg
         rt,
         &*disk,
         lanes.as_mut_slice(),
+        &mut all,
         fronts,
         out,
         batch,
@@ -96,12 +102,28 @@ fn search_lent<'q, R: Threads + Sync, D: SharedDisk, K: Sink, L: Ledger, M: Ledg
     answer
 }
 
-/// How many lanes so many workers are. One worker needs none, and no segment has two.
-fn lanes_for(workers: u32, segments: usize) -> u32 {
-    if workers > 1 && segments > 1 {
-        workers
-    } else {
-        0
+/// How long the names of files may be, in bytes, with all lanes together. A lane holds the lines of some 65,536
+/// rows, so that the names in the lines of all lanes take some 64 MiB at most.
+const NAME_BYTES: usize = 1_024;
+
+/// How many bytes the longest name of a file has.
+fn longest_name(files: &[FileEntry]) -> usize {
+    let mut longest = 0;
+    for file in files {
+        longest = file.name.as_slice().len().max(longest);
+    }
+    longest
+}
+
+/// How many lanes so many workers are. One worker needs none, and no segment has two. They are fewer where a
+/// file has a long name, as a lane holds its lines until its turn ends.
+fn lanes_for(workers: u32, segments: usize, files: &[FileEntry]) -> u32 {
+    if workers < 2 || segments < 2 {
+        return 0;
+    }
+    match u32::try_from(NAME_BYTES / longest_name(files).max(1)) {
+        Ok(most) => workers.min(most),
+        Err(_) => workers,
     }
 }
 
@@ -153,13 +175,15 @@ pub(crate) fn search_fronts<R: Threads + Sync, D: SharedDisk, K: Sink, L: Ledger
         (K.faults out.old) (K.faults out.new) result }
 {
     let (none, _) = fronts.split_at(0);
-    let most = lanes_for(crew.workers.count, fronts.len());
+    let most = lanes_for(crew.workers.count, fronts.len(), crew.lane.files);
     let lanes = lend_lanes(batch.alloc(), most, crew.lane, &*held, none, disk)?;
     // One lane alone would only gather what the search of one worker sends at once.
     if lanes.len() > 1 {
+        let all = held.share()?;
         return search_lent(
             crew.workers.rt,
             lanes,
+            all,
             fronts,
             disk,
             out,

@@ -4,7 +4,7 @@ ghost use Rattle.step_count.specs.Opens.{OpensFor};
 ghost use Rattle.search_walk.specs.Held.{named};
 ghost use Rattle.search_walk.specs.Ready.{Serves};
 ghost use Rattle.search_walk.specs.StepsScope.{IsScope, scope};
-ghost use Rattle.search_engine.specs.Lanes.{IsLaneRun, IsLaneSearch, IsWell, given, left_of};
+ghost use Rattle.search_engine.specs.Lanes.{IsLaneRun, IsLaneSearch, IsWell, given, left_of, scope_of};
 ghost use Rattle.search_engine.specs.Waiting.{no_counts};
 
 use crate::counts::{Counts, LaneCounts};
@@ -20,6 +20,7 @@ use row_codec::Layouts;
 use search_walk::{Context, Query, SearchRefusal};
 use std::alloc::Global;
 use std::marker::{Brand, Model};
+use std::mem::swap;
 use std::sync::ledger::{Blank, Ledger};
 use step_count::Steps;
 use subquery_filter::Filter;
@@ -88,7 +89,7 @@ fn search_into<P: Disk, L: Ledger, M: Ledger>(
     })
 }
 
-/// A lane of a search. The words that it reads it keeps.
+/// A lane of a search. The words that it reads in a turn it keeps for itself until they are shared.
 #[derive(Drop)]
 pub(crate) struct Lane<'q, P: Disk> {
     scope: LaneScope<'q>,
@@ -214,6 +215,20 @@ impl<'q, P: Disk> Lane<'q, P> {
         ensures sink { ¬ IsErrOf result SearchRefusal.SinkFault }
     {
         self.answer
+    }
+
+    /// Lets all have the words that it has read, and goes on with those that all had. Without memory for
+    /// a share it keeps its own.
+    pub(crate) fn share_words(&mut self, all: &mut HeldWords)
+        requires well { IsWell self.old }
+        requires serves { Serves (scope_of P.state self.old).names all.old }
+        ensures kept { self.new ≡ self.old }
+        ensures serves { Serves (scope_of P.state self.old).names all.new }
+    {
+        if let Ok(mut share) = all.share() {
+            swap(&mut self.held, &mut share);
+            all.take_in(share);
+        }
     }
 
     /// Its part of the disk.

@@ -1,13 +1,16 @@
 //! Lanes, each in a thread of its own: their segments, their run, and what they left.
 ghost use Rattle.std.specs.Prelude.{◌≡◌, ◌<◌, ◌≤◌, ◌++◌, ℕ, All, length, slice_index_or, IsErrOf, IsFalse, IsTrue};
 ghost use Rattle.std.specs.List.{Contains};
-ghost use Rattle.search_engine.specs.Lanes.{IsLaneRun, IsWell, LaneView, fronts_of, given};
+ghost use Rattle.search_walk.specs.Held.{Named};
+ghost use Rattle.search_walk.specs.Ready.{Serves};
+ghost use Rattle.search_engine.specs.Lanes.{HaveNames, IsLaneRun, IsWell, LaneView, ServesLanes, fronts_of, given};
 
 use crate::lane::Lane;
 use archive_places::SegmentFront;
 use log_seams::Disk;
 use search_walk::SearchRefusal;
 use std::thread::{Threads, for_each_mut};
+use word_places::HeldWords;
 
 /// How many segments a lane has in a turn at most.
 const MOST_SEGMENTS: usize = 65_536;
@@ -84,4 +87,28 @@ pub(crate) fn any_fell<P: Disk>(lanes: &[Lane<'_, P>]) -> bool
         }
     }
     false
+}
+
+/// Lets each lane go on with the words that all had and those that the lanes before it have read.
+fn pass_words<P: Disk>(lanes: &mut [Lane<'_, P>], all: &mut HeldWords)
+    requires well { All IsWell lanes.old }
+    requires serves { ServesLanes P.state all.old lanes.old }
+    ensures kept { lanes.new ≡ lanes.old }
+    ensures serves { (n : Named) → HaveNames P.state n lanes.old → Serves n all.old → Serves n all.new }
+{
+    for lane in lanes.iter_mut() {
+        lane.share_words(all);
+    }
+}
+
+/// Lets each lane have the words that all lanes have read.
+pub(crate) fn share_all<P: Disk>(lanes: &mut [Lane<'_, P>], all: &mut HeldWords)
+    requires well { All IsWell lanes.old }
+    requires serves { ServesLanes P.state all.old lanes.old }
+    ensures kept { lanes.new ≡ lanes.old }
+    ensures serves { (n : Named) → HaveNames P.state n lanes.old → Serves n all.old → Serves n all.new }
+{
+    // What the later lanes have read the first ones get when it is passed on once more.
+    pass_words(lanes, all);
+    pass_words(lanes, all);
 }

@@ -2,6 +2,7 @@
 ghost use Rattle.std.specs.Prelude.{◌≡◌, ◌<◌, ◌≤◌, ◌++◌, ◌^◌, [], ℕ, List, Option, All, length, IfOk, OnOk, OnErr, IsErrOf};
 ghost use Rattle.log_seams.specs.Outside.{CountsOf};
 ghost use Rattle.search_walk.specs.Opened.{NoFronts};
+ghost use Rattle.search_walk.specs.Ready.{Serves};
 ghost use Rattle.search_walk.specs.StepsScope.{Scope};
 ghost use Rattle.archive_places.specs.declared.front.SegmentFront.{SegmentFront};
 ghost use Rattle.search_engine.specs.Lanes.{FaultsOf, IsFresh, IsLane, IsLaneWorked, IsTurn, IsWell, fronts_of};
@@ -10,7 +11,7 @@ ghost use Rattle.search_engine.specs.Waiting.{state};
 
 use crate::gathering::tick_times;
 use crate::lane::Lane;
-use crate::lanes::{any_fell, deal, run_lanes};
+use crate::lanes::{any_fell, deal, run_lanes, share_all};
 use crate::page_batch::PageBatch;
 use archive_places::SegmentFront;
 use log_seams::{Disk, Sink};
@@ -18,6 +19,7 @@ use search_walk::SearchRefusal;
 use std::sync::ledger::Ledger;
 use std::thread::Threads;
 use step_count::Steps;
+use word_places::HeldWords;
 
 /// How many rows a lane searches in a turn at most, but for a segment that has more.
 const MOST_ROWS: u64 = 65_536;
@@ -177,7 +179,8 @@ fn run_turn<'q, R: Threads + Sync, D: Disk, P: Disk + Send, K: Sink, L: Ledger, 
     Ok((left, count))
 }
 
-/// Searches the segments by lanes, in turns, and answers how many were opened.
+/// Searches the segments by lanes, in turns, and answers how many were opened. Between the turns the lanes
+/// share the words that they have read.
 pub(crate) fn search_turns<
     'q,
     R: Threads + Sync,
@@ -190,6 +193,7 @@ pub(crate) fn search_turns<
     rt: &R,
     lender: &D,
     lanes: &mut [Lane<'q, P>],
+    all: &mut HeldWords,
     fronts: &'q [SegmentFront],
     out: &mut K,
     batch: &mut PageBatch,
@@ -199,6 +203,8 @@ pub(crate) fn search_turns<
     requires empty { batch.old.pages ≡ [] }
     requires some { 0 < length lanes.old }
     requires fresh { All (IsFresh P.Disk.state) lanes.old }
+    requires lanes { (s : Scope) × Serves s.names all.old
+        × All (IsLane P.Disk.state (D.state lender.now) s fronts.now) lanes.old }
 
     // the lanes
     ensures lanes { (s : Scope)
@@ -230,6 +236,7 @@ pub(crate) fn search_turns<
     let mut left = fronts;
     let mut count = 0;
     while !left.is_empty() {
+        share_all(lanes, all);
         let (later, more) = run_turn(rt, lender, lanes, left, out, batch, opened, expanded)?;
         left = later;
         count += more;

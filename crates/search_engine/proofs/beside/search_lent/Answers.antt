@@ -1,8 +1,14 @@
 use Rattle.std.proofs.Common.{◌∙◌, All, ap, arith, length, subst, sym}
+use Rattle.search_walk.specs.StepsScope.{Scope}
 use Rattle.search_walk.proofs.AnswerLemmas.{if_ok_to, on_err_to}
 use Rattle.search_engine.specs.Lanes.{FaultsOf, IsLane}
 use Rattle.search_engine.proofs.TurnLemmas.{back_whole, counts_of}
 use Rattle.search_engine.proofs.beside.search_lent.Goals as goal
+
+pub search_turns-answer-requires-clause-lanes : goal.search_turns-answer-requires-clause-lanes
+search_turns-answer-requires-clause-lanes g c =
+    let s : Scope = c.requires.lanes.0 in
+    (s, c.requires.lanes.1, subst (λ l. All (IsLane g.D.Part.Disk.state (g.D.Disk.state c.args.disk.now) s c.args.fronts.now) l) (sym c.as_mut_slice.ensures.value) c.requires.lanes.2)
 
 pub returns-clause-reads : goal.returns-clause-reads
 returns-clause-reads g c = λ s lanes.

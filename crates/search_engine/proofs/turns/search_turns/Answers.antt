@@ -5,13 +5,13 @@ use Rattle.std.proofs.lemmas.List.{append_assoc}
 use Rattle.archive_places.specs.declared.front.SegmentFront.{SegmentFront}
 use Rattle.search_walk.specs.Opened.{NoFronts}
 use Rattle.search_walk.proofs.AnswerLemmas.{on_err}
-use Rattle.search_engine.specs.Lanes.{IsLane}
+use Rattle.search_engine.specs.Lanes.{IsFresh, IsLane}
 use Rattle.search_engine.specs.SegmentsDone.{SearchedFronts, StoppedFronts}
 use Rattle.search_engine.specs.StepsWaiting.{reaches_none}
 use Rattle.search_engine.specs.Waiting.{Reaches, state}
 use Rattle.search_engine.proofs.FrontsLemmas.{fronts_none, none_second}
 use Rattle.search_engine.proofs.LaneListLemmas.{searched_on, stopped_on}
-use Rattle.search_engine.proofs.TurnLemmas.{counts_on, faults_on, fresh_faults, no_fronts_left, none_left}
+use Rattle.search_engine.proofs.TurnLemmas.{counts_on, faults_on, fresh_faults, lanes_here, no_fronts_left, none_left}
 use Rattle.search_engine.proofs.turns.search_turns.Goals as goal
 
 pub loop-left-init : goal.loop-left-init
@@ -25,9 +25,26 @@ loop-left-init g c = record {
   searched = λ s lanes.
       let a = state (g.K.Sink.written c.args.out.now) c.args.batch.now c.args.expanded.now in
       fronts_none (λ l. Reaches s.names s.query l a a) (g.D.Disk.state c.args.lender.now).seen s.names s.files s.query _ (reaches_none s.names s.query a);
+  words = λ s lanes serves. serves;
   empty = c.requires.empty;
   faults = refl;
 }
+
+pub share_all-requires-clause-well : goal.share_all-requires-clause-well
+share_all-requires-clause-well g c = λ k e lt. (c.loop-left.invariant.fresh k e lt).well
+
+pub share_all-requires-clause-serves : goal.share_all-requires-clause-serves
+share_all-requires-clause-serves g c =
+    let inv = c.loop-left.invariant in
+    let s : Scope = c.requires.lanes.0 in
+    record {
+      names = s.names;
+      serves = inv.words s c.requires.lanes.2 c.requires.lanes.1;
+      have = λ k e lt. ap (λ (x : Scope). x.names) (inv.lanes s c.requires.lanes.2 k e lt).is;
+    }
+
+pub run_turn-requires-clause-fresh : goal.run_turn-requires-clause-fresh
+run_turn-requires-clause-fresh g c = subst (λ l. All (IsFresh g.P.Disk.state) l) (sym c.share_all.ensures.kept) c.loop-left.invariant.fresh
 
 pub loop-left-preserved : goal.loop-left-preserved
 loop-left-preserved g c =
@@ -38,14 +55,15 @@ loop-left-preserved g c =
       gone = inv.gone ++ turn.chunk;
       parts = inv.parts ∙ ap (λ (f : List SegmentFront). inv.gone ++ f) turn.parts ∙ sym (append_assoc inv.gone turn.chunk _);
       most = omega (arith, inv.most, turn.most, length-append inv.gone turn.chunk);
-      len = c.run_turn.ensures.len ∙ inv.len;
+      len = c.run_turn.ensures.len ∙ ap length c.share_all.ensures.kept ∙ inv.len;
       fresh = c.in_ok-later.ensures.fresh;
       lanes = λ s lanes.
           subst (λ (f : List SegmentFront). All (IsLane g.P.Disk.state d s f) c.run_turn.new.lanes) (sym inv.parts)
-          (c.run_turn.ensures.lanes s inv.gone (subst (λ (f : List SegmentFront). All (IsLane g.P.Disk.state d s f) c.loop-left.lanes) inv.parts (inv.lanes s lanes)));
+          (c.run_turn.ensures.lanes s inv.gone (lanes_here g.P.Disk.state d s c.args.fronts.now _ c.loop-left.lanes c.share_all.new.lanes inv.parts c.share_all.ensures.kept (inv.lanes s lanes)));
       searched = λ s lanes.
           searched_on d.seen s inv.gone turn.chunk _ _ _ _ _ _ c.loop-left.count _ (inv.searched s lanes)
-          (turn.went s inv.gone (subst (λ (f : List SegmentFront). All (IsLane g.P.Disk.state d s f) c.loop-left.lanes) inv.parts (inv.lanes s lanes)));
+          (turn.went s inv.gone (lanes_here g.P.Disk.state d s c.args.fronts.now _ c.loop-left.lanes c.share_all.new.lanes inv.parts c.share_all.ensures.kept (inv.lanes s lanes)));
+      words = λ s lanes serves. c.share_all.ensures.serves s.names (λ k e lt. ap (λ (x : Scope). x.names) (inv.lanes s lanes k e lt).is) (inv.words s lanes serves);
       empty = c.in_ok-later.ensures.empty;
       faults = search rules;
     }
@@ -55,7 +73,7 @@ returns-in_err-later-clause-lanes g c = λ s lanes.
     let inv = c.loop-left.invariant in
     let d = g.D.Disk.state c.args.lender.now in
     subst (λ (f : List SegmentFront). All (IsLane g.P.Disk.state d s f) c.run_turn.new.lanes) (sym inv.parts)
-    (c.run_turn.ensures.lanes s inv.gone (subst (λ (f : List SegmentFront). All (IsLane g.P.Disk.state d s f) c.loop-left.lanes) inv.parts (inv.lanes s lanes)))
+    (c.run_turn.ensures.lanes s inv.gone (lanes_here g.P.Disk.state d s c.args.fronts.now _ c.loop-left.lanes c.share_all.new.lanes inv.parts c.share_all.ensures.kept (inv.lanes s lanes)))
 
 pub returns-in_err-later-clause-stopped : goal.returns-in_err-later-clause-stopped
 returns-in_err-later-clause-stopped g c =
@@ -65,7 +83,7 @@ returns-in_err-later-clause-stopped g c =
     let a = state (g.K.Sink.written c.args.out.now) c.args.batch.now c.args.expanded.now in
     subst (λ f. StoppedFronts d.seen s.names s.files s.query f a (g.K.Sink.written c.run_turn.new.out) c.run_turn.new.expanded c.args.opened.now c.run_turn.new.opened) (sym inv.parts)
     (stopped_on d.seen s inv.gone c.loop-left.left.now a _ _ _ _ _ _ c.loop-left.count (inv.searched s lanes)
-    (c.in_err-later.ensures.stopped s inv.gone (subst (λ (f : List SegmentFront). All (IsLane g.P.Disk.state d s f) c.loop-left.lanes) inv.parts (inv.lanes s lanes)))))
+    (c.in_err-later.ensures.stopped s inv.gone (lanes_here g.P.Disk.state d s c.args.fronts.now _ c.loop-left.lanes c.share_all.new.lanes inv.parts c.share_all.ensures.kept (inv.lanes s lanes)))))
 
 pub returns-in_err-later-clause-damaged : goal.returns-in_err-later-clause-damaged
 returns-in_err-later-clause-damaged g c = λ is s lanes.
@@ -73,7 +91,7 @@ returns-in_err-later-clause-damaged g c = λ is s lanes.
     let d = g.D.Disk.state c.args.lender.now in
     subst (λ f. NoFronts d.seen s.names s.files f) (sym inv.parts)
     (none_second s.names s.files s.query inv.gone c.loop-left.left.now d.seen
-    (c.in_err-later.ensures.damaged (search (rules, is)) s inv.gone (subst (λ (f : List SegmentFront). All (IsLane g.P.Disk.state d s f) c.loop-left.lanes) inv.parts (inv.lanes s lanes))))
+    (c.in_err-later.ensures.damaged (search (rules, is)) s inv.gone (lanes_here g.P.Disk.state d s c.args.fronts.now _ c.loop-left.lanes c.share_all.new.lanes inv.parts c.share_all.ensures.kept (inv.lanes s lanes))))
 
 pub returns-in_err-later-clause-faults : goal.returns-in_err-later-clause-faults
 returns-in_err-later-clause-faults g c =
