@@ -448,6 +448,43 @@ fn many_pages_print_what_one_worker_prints(rt: HostRuntime) -> Result<(), Fail> 
     Ok(())
 }
 
+/// The archive of four segments with a name of so many bytes for its file.
+fn named(alloc: Global, len: u32) -> Result<Vec<u8>, AllocError> {
+    let mut bytes = ROWS[..34].to_vec(alloc)?;
+    bytes.extend_from_slice(&u64::from(len).saturating_add(8).to_le_bytes())?;
+    bytes.extend_from_slice(&[1, 0, 0, 0])?;
+    bytes.extend_from_slice(&len.to_le_bytes())?;
+    bytes.extend_from_slice(vec![in alloc; b'n'; len as usize]?.as_slice())?;
+    bytes.extend_from_slice(&ROWS[55..])?;
+    Ok(bytes)
+}
+
+/// Whether a search by five workers of a file with such a name prints and answers what one worker does, and
+/// whether it made as many calls of the disk, which is then not searched by parts.
+fn is_one_for_name<R: Threads + Sync>(
+    rt: &R,
+    alloc: Global,
+    len: u32,
+) -> Result<(bool, bool), AllocError> {
+    let bytes = named(alloc, len)?;
+    let one = searched(rt, 1, alloc, bytes.as_slice(), b"run task_", ALL, 20_000)?;
+    let many = searched(rt, 5, alloc, bytes.as_slice(), b"run task_", ALL, 20_000)?;
+    let same = many.printed.bytes() == one.printed.bytes() && many.answer == one.answer;
+    Ok((same && one.answer.is_ok(), many.calls == one.calls))
+}
+
+/// Lengths of a name, and whether one worker searches its file alone.
+const NAMES: &[(u32, bool)] = &[(5, false), (512, false), (513, true), (4_096, true)];
+
+#[test]
+fn long_names_leave_one_worker(rt: HostRuntime) -> Result<(), Fail> {
+    for &(len, alone) in NAMES {
+        let (same, one) = is_one_for_name(&rt, rt.alloc(), len)?;
+        assert!(rt; same && one == alone, "{len}");
+    }
+    Ok(())
+}
+
 /// Whether with so many workers a search of 100,000 rows, which are 25 pages, has made so many calls of
 /// the disk when its output fails at the first piece.
 fn calls_until_printed<R: Threads + Sync>(

@@ -1,5 +1,5 @@
 -- Lanes of a turn, one after the other.
-use Rattle.std.specs.Prelude.{IsErrOf, All}
+use Rattle.std.specs.Prelude.{Err, IsErrOf, Ok, Result, All}
 use Rattle.std.proofs.Common.{◌≡◌, ◌≢◌, ℕ, zero, suc, ◌+◌, ◌<◌, ◌≤◌, ◌^◌, List, [], ◌∷◌, ◌++◌, length, get_or, set, take, drop, Option, refl, sym, ◌∙◌, ap, ap₂, subst, arith, take-append-drop, below_more, length-set, length-append, get_or-set_same, get_or-set_other}
 use mathlib.Core.Logic.{dite}
 use native.Mathlib.Decide.{ℕ_discrete}
@@ -14,7 +14,7 @@ use Rattle.search_walk.specs.Ready.{Serves}
 use Rattle.search_walk.specs.declared.refusal.SearchRefusal.{SearchRefusal}
 use Rattle.search_walk.specs.Opened.{NoFronts}
 use Rattle.search_walk.specs.StepsScope.{Scope}
-use Rattle.search_engine.specs.SegmentsDone.{SearchedFronts, StoppedFronts}
+use Rattle.search_engine.specs.SegmentsDone.{SearchedFronts, StoppedFronts, WentOverFronts}
 use Rattle.search_engine.specs.Lanes.{HaveNames, IsLaneWorked, IsWell, LaneView, ServesLanes, fronts_of, given, scope_of}
 use Rattle.search_engine.specs.Waiting.{Halts, Reaches, State}
 use Rattle.search_engine.specs.StepsWaiting.{halts_behind, halts_more, reaches_none, reaches_on}
@@ -33,6 +33,16 @@ stopped_on seen s x y a b w k t u v count one two =
 
 pub stopped_more : (seen : Option (List ℕ)) (s : Scope) (x y : List SegmentFront) (a : State) (w : Option (List ℕ)) (k t u : ℕ) → StoppedFronts seen s.names s.files s.query x a w k t u → StoppedFronts seen s.names s.files s.query (x ++ y) a w k t u
 stopped_more seen s x y a w k t u one = fronts_stop_more s.names s.files s.query x y (λ l. Halts s.names s.query l a w k) seen t u (λ xs ys f. halts_more s.names s.query xs ys a w k f) one
+
+-- ---- what came of a search, by its answer
+
+pub went_done : (seen : Option (List ℕ)) (s : Scope) (fronts : List SegmentFront) (a b : State) (t u count : ℕ) → SearchedFronts seen s.names s.files s.query fronts a b t u count → WentOverFronts seen s fronts a b t u (Ok count)
+went_done seen s fronts a b t u count done = record { done = done; stopped = tt; damaged = λ is. absurd (cc (is)) }
+
+-- a refusal that is handed on
+pub went_stopped : {A : Type 0} (seen : Option (List ℕ)) (s : Scope) (fronts : List SegmentFront) (a b : State) (t u : ℕ) (e : SearchRefusal) (r : Result ℕ SearchRefusal) → r ≡ Err e → StoppedFronts seen s.names s.files s.query fronts a b.written b.ticks t u
+    → (IsErrOf {T = A} (Err e) SearchRefusal.Damaged → NoFronts seen s.names s.files fronts) → WentOverFronts seen s fronts a b t u r
+went_stopped seen s fronts a b t u e r is_err stopped damaged = subst (λ x. WentOverFronts seen s fronts a b t u x) (sym is_err) (record { done = tt; stopped = stopped; damaged = λ is. damaged (cc (is)) })
 
 -- ---- the lanes of a list
 

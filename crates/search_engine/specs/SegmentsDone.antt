@@ -1,11 +1,14 @@
 -- What a walk has done with segments for a search with pages that wait.
-use Rattle.std.specs.Prelude.{ℕ, List, Option}
+use Rattle.std.specs.Prelude.{ℕ, List, Option, Result, IfOk, OnErr, IsErrOf}
 use Rattle.archive_open.specs.declared.files.FileEntry.{FileEntry}
 use Rattle.archive_open.specs.declared.segments.SegmentPlace.{SegmentPlace}
 use Rattle.archive_places.specs.declared.front.SegmentFront.{SegmentFront}
 use Rattle.printed_lines.specs.Lines.{Placed}
 use Rattle.search_meaning.specs.Scan.{Asked}
+use Rattle.search_walk.specs.declared.refusal.SearchRefusal.{SearchRefusal}
 use Rattle.search_walk.specs.Held.{Named}
+use Rattle.search_walk.specs.Opened.{NoFronts}
+use Rattle.search_walk.specs.StepsScope.{Scope}
 use Rattle.search_walk.specs.Walked.{Searched as SearchedBy, SearchedFronts as SearchedFrontsBy, Stopped as StoppedBy, StoppedFronts as StoppedFrontsBy}
 use Rattle.search_engine.specs.Waiting.{Halts, Reaches, State}
 
@@ -27,3 +30,10 @@ abbrev pub StoppedFronts : Option (List ℕ) → Named → List FileEntry → As
     → ℕ → ℕ → Type 0
 StoppedFronts seen n files q fronts a written expanded ticks later = StoppedFrontsBy
     (λ l. Halts n q l a written expanded) seen n files q fronts ticks later
+
+-- what became of a search of segments: how many were opened, or why it stopped among them
+pub record WentOverFronts (seen : Option (List ℕ)) (s : Scope) (fronts : List SegmentFront) (a b : State) (ticks later : ℕ)
+    (r : Result ℕ SearchRefusal) : Type 0 where
+  pub done : IfOk r (λ count. SearchedFronts seen s.names s.files s.query fronts a b ticks later count)
+  pub stopped : OnErr r (StoppedFronts seen s.names s.files s.query fronts a b.written b.ticks ticks later)
+  pub damaged : IsErrOf r SearchRefusal.Damaged → NoFronts seen s.names s.files fronts

@@ -8,7 +8,7 @@ ghost use Rattle.search_walk.specs.Ready.{Serves};
 ghost use Rattle.search_walk.specs.StepsScope.{IsScope, Scope, scope};
 ghost use Rattle.search_engine.specs.Lanes.{IsFresh, IsLane};
 ghost use Rattle.search_engine.specs.Over.{IsServedOver};
-ghost use Rattle.search_engine.specs.SegmentsDone.{SearchedFronts, StoppedFronts};
+ghost use Rattle.search_engine.specs.SegmentsDone.{SearchedFronts, StoppedFronts, WentOverFronts};
 ghost use Rattle.search_engine.specs.Waiting.{state};
 
 use crate::lane::{Lane, LaneScope};
@@ -65,23 +65,15 @@ fn search_lent<'q, R: Threads + Sync, D: SharedDisk, K: Sink, L: Ledger, M: Ledg
         → ReadsFronts (D.Disk.state disk.old) (D.Disk.state disk.new)
         s.names s.files s.query fronts.now }
 
-    // by the answer
-    ensures done { IfOk result (λ count. (s : Scope)
+    // what came of it
+    ensures searched { (s : Scope)
         → All (IsLane D.Part.state (D.Disk.state disk.old) s fronts.now) lanes.entry.items
-        → SearchedFronts (D.Disk.state disk.old).seen s.names s.files s.query fronts.now
+        → WentOverFronts (D.Disk.state disk.old).seen s fronts.now
         (state (K.written out.old) batch.old expanded.old)
-        (state (K.written out.new) batch.new expanded.new) opened.old opened.new count) }
+        (state (K.written out.new) batch.new expanded.new) opened.old opened.new result }
     ensures empty { IfOk result (λ _. batch.new.pages ≡ []) }
-    ensures stopped { OnErr result ((s : Scope)
-        → All (IsLane D.Part.state (D.Disk.state disk.old) s fronts.now) lanes.entry.items
-        → StoppedFronts (D.Disk.state disk.old).seen s.names s.files s.query fronts.now
-        (state (K.written out.old) batch.old expanded.old)
-        (K.written out.new) expanded.new opened.old opened.new) }
 
     // causes
-    ensures damaged { IsErrOf result SearchRefusal.Damaged → (s : Scope)
-        → All (IsLane D.Part.state (D.Disk.state disk.old) s fronts.now) lanes.entry.items
-        → NoFronts (D.Disk.state disk.old).seen s.names s.files fronts.now }
     ensures disk_counts { CountsOf SearchRefusal.DiskFault
         (D.Disk.state disk.old).faults (D.Disk.state disk.new).faults result }
     ensures sink_counts { CountsOf SearchRefusal.SinkFault

@@ -6,7 +6,7 @@ ghost use Rattle.search_walk.specs.Ready.{Serves};
 ghost use Rattle.search_walk.specs.StepsScope.{Scope};
 ghost use Rattle.archive_places.specs.declared.front.SegmentFront.{SegmentFront};
 ghost use Rattle.search_engine.specs.Lanes.{FaultsOf, IsFresh, IsLane, IsLaneWorked, IsTurn, IsWell, fronts_of};
-ghost use Rattle.search_engine.specs.SegmentsDone.{SearchedFronts, StoppedFronts};
+ghost use Rattle.search_engine.specs.SegmentsDone.{SearchedFronts, StoppedFronts, WentOverFronts};
 ghost use Rattle.search_engine.specs.Waiting.{state};
 
 use crate::gathering::tick_times;
@@ -213,23 +213,13 @@ pub(crate) fn search_turns<
     ensures len { length lanes.new ≡ length lanes.old }
     ensures faults { FaultsOf P.Disk.state lanes.new result }
 
-    // by the answer
-    ensures done { IfOk result (λ count. (s : Scope)
+    // what came of it
+    ensures searched { (s : Scope)
         → All (IsLane P.Disk.state (D.state lender.now) s fronts.now) lanes.old
-        → SearchedFronts (D.state lender.now).seen s.names s.files s.query fronts.now
+        → WentOverFronts (D.state lender.now).seen s fronts.now
         (state (K.written out.old) batch.old expanded.old)
-        (state (K.written out.new) batch.new expanded.new) opened.old opened.new count) }
+        (state (K.written out.new) batch.new expanded.new) opened.old opened.new result }
     ensures empty { OnOk result (batch.new.pages ≡ []) }
-    ensures stopped { OnErr result ((s : Scope)
-        → All (IsLane P.Disk.state (D.state lender.now) s fronts.now) lanes.old
-        → StoppedFronts (D.state lender.now).seen s.names s.files s.query fronts.now
-        (state (K.written out.old) batch.old expanded.old)
-        (K.written out.new) expanded.new opened.old opened.new) }
-
-    // causes
-    ensures damaged { IsErrOf result SearchRefusal.Damaged → (s : Scope)
-        → All (IsLane P.Disk.state (D.state lender.now) s fronts.now) lanes.old
-        → NoFronts (D.state lender.now).seen s.names s.files fronts.now }
     ensures sink_counts { CountsOf SearchRefusal.SinkFault
         (K.faults out.old) (K.faults out.new) result }
 {

@@ -68,7 +68,7 @@ returns-then-len-gt1-clause-done g c =
     let lanes = subst (λ (x : Scope). All (IsLane g.D.Part.Disk.state d1 x c.args.fronts.now) c.in_ok-lanes.lanes.items) (sym c.requires.is) (c.in_ok-lanes.ensures.lanes c.args.fronts.now) in
     let a = state (g.K.Sink.written c.args.out.now) c.args.batch.now c.args.expanded.now in
     let b = state (g.K.Sink.written c.search_lent.new.out) c.search_lent.new.batch c.search_lent.new.expanded in
-    if_ok_to c.search_lent.result _ _ (λ count done. subst (λ x. SearchedFronts x s.names s.files s.query c.args.fronts.now a b c.args.opened.now c.search_lent.new.opened count) c.lend_lanes.ensures.lends.rests.seen (done s lanes)) c.search_lent.ensures.done
+    if_ok_to c.search_lent.result _ _ (λ count done. subst (λ x. SearchedFronts x s.names s.files s.query c.args.fronts.now a b c.args.opened.now c.search_lent.new.opened count) c.lend_lanes.ensures.lends.rests.seen done) (c.search_lent.ensures.searched s lanes).done
 
 pub returns-then-len-gt1-clause-stopped : goal.returns-then-len-gt1-clause-stopped
 returns-then-len-gt1-clause-stopped g c =
@@ -76,14 +76,14 @@ returns-then-len-gt1-clause-stopped g c =
     let d1 = g.D.Disk.state c.lend_lanes.new.disk in
     let lanes = subst (λ (x : Scope). All (IsLane g.D.Part.Disk.state d1 x c.args.fronts.now) c.in_ok-lanes.lanes.items) (sym c.requires.is) (c.in_ok-lanes.ensures.lanes c.args.fronts.now) in
     let a = state (g.K.Sink.written c.args.out.now) c.args.batch.now c.args.expanded.now in
-    on_err_to c.search_lent.result _ _ (λ stopped. subst (λ x. StoppedFronts x s.names s.files s.query c.args.fronts.now a (g.K.Sink.written c.search_lent.new.out) c.search_lent.new.expanded c.args.opened.now c.search_lent.new.opened) c.lend_lanes.ensures.lends.rests.seen (stopped s lanes)) c.search_lent.ensures.stopped
+    on_err_to c.search_lent.result _ _ (λ stopped. subst (λ x. StoppedFronts x s.names s.files s.query c.args.fronts.now a (g.K.Sink.written c.search_lent.new.out) c.search_lent.new.expanded c.args.opened.now c.search_lent.new.opened) c.lend_lanes.ensures.lends.rests.seen stopped) (c.search_lent.ensures.searched s lanes).stopped
 
 pub returns-then-len-gt1-clause-damaged : goal.returns-then-len-gt1-clause-damaged
 returns-then-len-gt1-clause-damaged g c = λ is.
     let s = c.args.crew.now.context.now in
     let d1 = g.D.Disk.state c.lend_lanes.new.disk in
     let lanes = subst (λ (x : Scope). All (IsLane g.D.Part.Disk.state d1 x c.args.fronts.now) c.in_ok-lanes.lanes.items) (sym c.requires.is) (c.in_ok-lanes.ensures.lanes c.args.fronts.now) in
-    subst (λ x. NoFronts x s.names s.files c.args.fronts.now) c.lend_lanes.ensures.lends.rests.seen (c.search_lent.ensures.damaged is s lanes)
+    subst (λ x. NoFronts x s.names s.files c.args.fronts.now) c.lend_lanes.ensures.lends.rests.seen ((c.search_lent.ensures.searched s lanes).damaged is)
 
 pub returns-clause-rests : goal.returns-clause-rests
 returns-clause-rests g c = rests_on _ (g.D.Disk.state c.lend_lanes.new.disk) _ c.lend_lanes.ensures.lends.rests c.print_segments.ensures.rests

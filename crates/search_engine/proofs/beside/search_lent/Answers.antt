@@ -1,6 +1,5 @@
 use Rattle.std.proofs.Common.{◌∙◌, All, ap, arith, length, subst, sym}
 use Rattle.search_walk.specs.StepsScope.{Scope}
-use Rattle.search_walk.proofs.AnswerLemmas.{if_ok_to, on_err_to}
 use Rattle.search_engine.specs.Lanes.{FaultsOf, IsLane}
 use Rattle.search_engine.proofs.TurnLemmas.{back_whole, counts_of}
 use Rattle.search_engine.proofs.beside.search_lent.Goals as goal
@@ -18,17 +17,9 @@ returns-clause-reads g c = λ s lanes.
     c.take_back_all.ensures.reads s c.args.fronts.now
     (subst (λ l. All (IsLane g.D.Part.Disk.state d s c.args.fronts.now) l) (sym whole) (c.search_turns-answer.ensures.lanes s (subst (λ l. All (IsLane g.D.Part.Disk.state d s c.args.fronts.now) l) (sym is) lanes)))
 
-pub returns-clause-done : goal.returns-clause-done
-returns-clause-done g c =
-    if_ok_to c.search_turns-answer.result _ _ (λ count done s lanes. done s (subst (λ l. All (IsLane g.D.Part.Disk.state (g.D.Disk.state c.args.disk.now) s c.args.fronts.now) l) (sym c.as_mut_slice.ensures.value) lanes)) c.search_turns-answer.ensures.done
-
-pub returns-clause-stopped : goal.returns-clause-stopped
-returns-clause-stopped g c =
-    on_err_to c.search_turns-answer.result _ _ (λ stopped s lanes. stopped s (subst (λ l. All (IsLane g.D.Part.Disk.state (g.D.Disk.state c.args.disk.now) s c.args.fronts.now) l) (sym c.as_mut_slice.ensures.value) lanes)) c.search_turns-answer.ensures.stopped
-
-pub returns-clause-damaged : goal.returns-clause-damaged
-returns-clause-damaged g c = λ is s lanes.
-    c.search_turns-answer.ensures.damaged is s (subst (λ l. All (IsLane g.D.Part.Disk.state (g.D.Disk.state c.args.disk.now) s c.args.fronts.now) l) (sym c.as_mut_slice.ensures.value) lanes)
+pub returns-clause-searched : goal.returns-clause-searched
+returns-clause-searched g c = λ s lanes.
+    c.search_turns-answer.ensures.searched s (subst (λ l. All (IsLane g.D.Part.Disk.state (g.D.Disk.state c.args.disk.now) s c.args.fronts.now) l) (sym c.as_mut_slice.ensures.value) lanes)
 
 pub returns-clause-disk_counts : goal.returns-clause-disk_counts
 returns-clause-disk_counts g c =

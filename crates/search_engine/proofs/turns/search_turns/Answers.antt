@@ -4,13 +4,12 @@ use Rattle.std.proofs.Common.{◌≡◌, ◌++◌, ◌∙◌, ap, arith, length,
 use Rattle.std.proofs.lemmas.List.{append_assoc}
 use Rattle.archive_places.specs.declared.front.SegmentFront.{SegmentFront}
 use Rattle.search_walk.specs.Opened.{NoFronts}
-use Rattle.search_walk.proofs.AnswerLemmas.{on_err}
 use Rattle.search_engine.specs.Lanes.{IsFresh, IsLane}
 use Rattle.search_engine.specs.SegmentsDone.{SearchedFronts, StoppedFronts}
 use Rattle.search_engine.specs.StepsWaiting.{reaches_none}
 use Rattle.search_engine.specs.Waiting.{Reaches, state}
 use Rattle.search_engine.proofs.FrontsLemmas.{fronts_none, none_second}
-use Rattle.search_engine.proofs.LaneListLemmas.{searched_on, stopped_on}
+use Rattle.search_engine.proofs.LaneListLemmas.{searched_on, stopped_on, went_done, went_stopped}
 use Rattle.search_engine.proofs.TurnLemmas.{counts_on, faults_on, fresh_faults, lanes_here, no_fronts_left, none_left}
 use Rattle.search_engine.proofs.turns.search_turns.Goals as goal
 
@@ -75,23 +74,21 @@ returns-in_err-later-clause-lanes g c = λ s lanes.
     subst (λ (f : List SegmentFront). All (IsLane g.P.Disk.state d s f) c.run_turn.new.lanes) (sym inv.parts)
     (c.run_turn.ensures.lanes s inv.gone (lanes_here g.P.Disk.state d s c.args.fronts.now _ c.loop-left.lanes c.share_all.new.lanes inv.parts c.share_all.ensures.kept (inv.lanes s lanes)))
 
-pub returns-in_err-later-clause-stopped : goal.returns-in_err-later-clause-stopped
-returns-in_err-later-clause-stopped g c =
-    on_err c.from_residual.result _ (λ s lanes.
+pub returns-in_err-later-clause-searched : goal.returns-in_err-later-clause-searched
+returns-in_err-later-clause-searched g c = λ s lanes.
     let inv = c.loop-left.invariant in
     let d = g.D.Disk.state c.args.lender.now in
     let a = state (g.K.Sink.written c.args.out.now) c.args.batch.now c.args.expanded.now in
-    subst (λ f. StoppedFronts d.seen s.names s.files s.query f a (g.K.Sink.written c.run_turn.new.out) c.run_turn.new.expanded c.args.opened.now c.run_turn.new.opened) (sym inv.parts)
-    (stopped_on d.seen s inv.gone c.loop-left.left.now a _ _ _ _ _ _ c.loop-left.count (inv.searched s lanes)
-    (c.in_err-later.ensures.stopped s inv.gone (lanes_here g.P.Disk.state d s c.args.fronts.now _ c.loop-left.lanes c.share_all.new.lanes inv.parts c.share_all.ensures.kept (inv.lanes s lanes)))))
-
-pub returns-in_err-later-clause-damaged : goal.returns-in_err-later-clause-damaged
-returns-in_err-later-clause-damaged g c = λ is s lanes.
-    let inv = c.loop-left.invariant in
-    let d = g.D.Disk.state c.args.lender.now in
+    let here = lanes_here g.P.Disk.state d s c.args.fronts.now _ c.loop-left.lanes c.share_all.new.lanes inv.parts c.share_all.ensures.kept (inv.lanes s lanes) in
+    let e = c.in_err-later.field-0.0 in
+    let p = err_from_is_err_and c.from_residual.result c.from_residual.ensures.1 in
+    let answer : c.from_residual.result ≡ Err e = cc (p.1, p.2) in
+    went_stopped d.seen s c.args.fronts.now a _ _ _ e c.from_residual.result answer
+    (subst (λ f. StoppedFronts d.seen s.names s.files s.query f a (g.K.Sink.written c.run_turn.new.out) c.run_turn.new.expanded c.args.opened.now c.run_turn.new.opened) (sym inv.parts)
+    (stopped_on d.seen s inv.gone c.loop-left.left.now a _ _ _ _ _ _ c.loop-left.count (inv.searched s lanes) (c.in_err-later.ensures.stopped s inv.gone here)))
+    (λ is.
     subst (λ f. NoFronts d.seen s.names s.files f) (sym inv.parts)
-    (none_second s.names s.files s.query inv.gone c.loop-left.left.now d.seen
-    (c.in_err-later.ensures.damaged (search (rules, is)) s inv.gone (lanes_here g.P.Disk.state d s c.args.fronts.now _ c.loop-left.lanes c.share_all.new.lanes inv.parts c.share_all.ensures.kept (inv.lanes s lanes))))
+    (none_second s.names s.files s.query inv.gone c.loop-left.left.now d.seen (c.in_err-later.ensures.damaged is s inv.gone here)))
 
 pub returns-in_err-later-clause-faults : goal.returns-in_err-later-clause-faults
 returns-in_err-later-clause-faults g c =
@@ -113,10 +110,11 @@ returns-clause-lanes g c = λ s lanes. c.loop-left.invariant.lanes s lanes
 pub returns-clause-faults : goal.returns-clause-faults
 returns-clause-faults g c = record { some = λ is. absurd (cc (is)); none = λ not. fresh_faults g.P.Disk.state c.loop-left.lanes c.loop-left.invariant.fresh }
 
-pub returns-clause-done : goal.returns-clause-done
-returns-clause-done g c = λ s lanes.
+pub returns-clause-searched : goal.returns-clause-searched
+returns-clause-searched g c = λ s lanes.
     let inv = c.loop-left.invariant in
     let d = g.D.Disk.state c.args.lender.now in
     let a = state (g.K.Sink.written c.args.out.now) c.args.batch.now c.args.expanded.now in
     let b = state (g.K.Sink.written c.loop-left.out) c.loop-left.batch c.loop-left.expanded in
-    subst (λ f. SearchedFronts d.seen s.names s.files s.query f a b c.args.opened.now c.loop-left.opened c.loop-left.count) (sym (no_fronts_left c.args.fronts.now inv.gone c.loop-left.left.now (none_left c.loop-left.left.now (sym c.is_empty.ensures ∙ c.loop-left-test.false)) inv.parts)) (inv.searched s lanes)
+    went_done d.seen s c.args.fronts.now a b _ _ c.loop-left.count
+    (subst (λ f. SearchedFronts d.seen s.names s.files s.query f a b c.args.opened.now c.loop-left.opened c.loop-left.count) (sym (no_fronts_left c.args.fronts.now inv.gone c.loop-left.left.now (none_left c.loop-left.left.now (sym c.is_empty.ensures ∙ c.loop-left-test.false)) inv.parts)) (inv.searched s lanes))
