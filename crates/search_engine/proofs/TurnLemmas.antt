@@ -230,11 +230,12 @@ text_sink SearchRefusal.SinkFault = λ is. absurd (cc (is))
 text_sink SearchRefusal.Damaged = λ is. absurd (cc (is))
 text_sink SearchRefusal.OutOfMemory = λ is. absurd (cc (is))
 
-pub lane_run_err : {P : Type 0} (state : P → DiskState) (x old : LaneView P) (part : P) (text : List ℕ) (e : SearchRefusal) → x ≡ old → length x.fronts ≤ 65536
-    → IsLaneSearch (state x.part) (state part) (scope_of state x) x.fronts text (Err e) → IsLaneRun state old (record x { part = part; left = left_of text x.left.counts x.left.opened (Err (in_text e)) })
-lane_run_err state x old part text e same few ran =
-    lane_run_is state x old part (left_of text x.left.counts x.left.opened (Err (in_text e))) same few ran.rests ran.reads
-    (text_counts (state x.part).faults (state part).faults e ran.counts) (text_sink e) tt ran.stopped (λ is. ran.damaged (text_damaged e is))
+pub lane_run_err : {P : Type 0} (state : P → DiskState) (x old : LaneView P) (part : P) (text : List ℕ) (e r : SearchRefusal) → r ≡ in_text e → x ≡ old → length x.fronts ≤ 65536
+    → IsLaneSearch (state x.part) (state part) (scope_of state x) x.fronts text (Err e) → IsLaneRun state old (record x { part = part; left = left_of text x.left.counts x.left.opened (Err r) })
+lane_run_err state x old part text e r is same few ran =
+    subst (λ (y : SearchRefusal). IsLaneRun state old (record x { part = part; left = left_of text x.left.counts x.left.opened (Err y) })) (sym is)
+    (lane_run_is state x old part (left_of text x.left.counts x.left.opened (Err (in_text e))) same few ran.rests ran.reads
+    (text_counts (state x.part).faults (state part).faults e ran.counts) (text_sink e) tt ran.stopped (λ no. ran.damaged (text_damaged e no)))
 
 other_error : {A B : Type 0} (e x : SearchRefusal) → IsErrOf {T = A} (Err e) x → IsErrOf {T = B} (Err e) x
 other_error e x is = cc (is)

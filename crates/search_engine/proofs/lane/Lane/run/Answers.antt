@@ -13,5 +13,4 @@ returns-in-Ok g c = λ well.
 pub returns-in-Err : goal.returns-in-Err
 returns-in-Err g c = λ well.
     let t = c.search_into-searched in
-    subst (λ (e : SearchRefusal). IsLaneRun g.P.Disk.state c.args.self.now (record c.args.self.now { part = t.new.part; left = left_of t.new.sink.text.items c.args.self.now.left.counts c.args.self.now.left.opened (Err e) })) (sym c.in_text-in-Err.ensures)
-    (lane_run_err g.P.Disk.state _ c.args.self.now t.new.part t.new.sink.text.items c.in-Err.refusal c.self.view_is (search rules) c.in-Err.ensures.ran)
+    lane_run_err g.P.Disk.state _ c.args.self.now t.new.part t.new.sink.text.items c.in-Err.refusal c.in_text.result c.in_text.ensures c.self.view_is (search rules) c.in-Err.ensures.ran
