@@ -198,6 +198,15 @@ well_is : (r : Result (Unit {0}) SearchRefusal) → OnErr r ⊥ → r ≡ Ok tt
 well_is (Ok tt) well = refl
 well_is (Err e) well = absurd well
 
+-- what holds if a lane is well
+pub of_well : (r : Result (Unit {0}) SearchRefusal) (S : Type 0) → OnErr r ⊥ → OnOk r S → S
+of_well (Ok t) S well has = has
+of_well (Err e) S well has = absurd well
+
+pub ok_of : (r : Result (Unit {0}) SearchRefusal) (S : Type 0) → S → OnOk r S
+ok_of (Ok t) S has = has
+ok_of (Err e) S has = tt
+
 -- a lane that is well did not answer a refusal
 pub well_not : (r : Result (Unit {0}) SearchRefusal) → IsErr r → OnErr r ⊥ → ⊥
 well_not (Ok t) is well = absurd (cc (is))
