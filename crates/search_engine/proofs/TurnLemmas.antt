@@ -17,7 +17,7 @@ use Rattle.search_walk.specs.Opened.{IsRead, NoFronts, OfFronts, ReadsFronts, Re
 use Rattle.search_walk.specs.StepsScope.{Scope, scope}
 use Rattle.search_walk.proofs.RunLemmas.{reads_joined}
 use Rattle.search_engine.specs.declared.counts.LaneCounts.{LaneCounts}
-use Rattle.search_engine.specs.Refused.{in_text}
+use Rattle.search_engine.specs.Refused.{from_text}
 use Rattle.search_engine.specs.Lanes.{FaultsOf, IsFresh, IsLane, IsLaneRun, IsLaneSearch, IsLaneWorked, IsWell, LaneLeft, LaneView, PartReads, SearchedInto, StoppedInto, fronts_of, given, left_of, scope_of}
 use Rattle.log_seams.specs.Parts.{no_ranges}
 use Rattle.search_engine.proofs.FrontsLemmas.{have_both, parted}
@@ -221,29 +221,29 @@ lane_run_ok state x old part text told same few ran well =
     (record { later = ran.counts.later; steady = ran.counts.steady; failed = λ no. absurd (cc (no)); spared = λ e no other. absurd (cc (no)) }) (λ no. absurd (cc (no))) ran.done tt (λ no. absurd (cc (no))))
 
 -- a refusal of a search into a text
-text_counts : {A B : Type 0} (old new : ℕ) (e : SearchRefusal) → CountsOf {T = A} SearchRefusal.DiskFault old new (Err e) → CountsOf {T = B} SearchRefusal.DiskFault old new (Err (in_text e))
+text_counts : {A B : Type 0} (old new : ℕ) (e : SearchRefusal) → CountsOf {T = A} SearchRefusal.DiskFault old new (Err e) → CountsOf {T = B} SearchRefusal.DiskFault old new (Err (from_text e))
 text_counts old new SearchRefusal.DiskFault counts = record { later = counts.later; steady = tt; failed = λ is. counts.failed refl; spared = λ x is other. counts.spared x (cc (is)) other }
 text_counts old new SearchRefusal.SinkFault counts = record { later = counts.later; steady = tt; failed = λ is. absurd (cc (is)); spared = λ x is other. counts.spared SearchRefusal.SinkFault refl (λ no. absurd (cc (no))) }
 text_counts old new SearchRefusal.Damaged counts = record { later = counts.later; steady = tt; failed = λ is. absurd (cc (is)); spared = λ x is other. counts.spared x (cc (is)) other }
 text_counts old new SearchRefusal.OutOfMemory counts = record { later = counts.later; steady = tt; failed = λ is. absurd (cc (is)); spared = λ x is other. counts.spared x (cc (is)) other }
 
-text_damaged : {A B : Type 0} (e : SearchRefusal) → IsErrOf {T = A} (Err (in_text e)) SearchRefusal.Damaged → IsErrOf {T = B} (Err e) SearchRefusal.Damaged
+text_damaged : {A B : Type 0} (e : SearchRefusal) → IsErrOf {T = A} (Err (from_text e)) SearchRefusal.Damaged → IsErrOf {T = B} (Err e) SearchRefusal.Damaged
 text_damaged SearchRefusal.DiskFault is = absurd (cc (is))
 text_damaged SearchRefusal.SinkFault is = absurd (cc (is))
 text_damaged SearchRefusal.Damaged is = refl
 text_damaged SearchRefusal.OutOfMemory is = absurd (cc (is))
 
-text_sink : {A : Type 0} (e : SearchRefusal) → ¬ IsErrOf {T = A} (Err (in_text e)) SearchRefusal.SinkFault
+text_sink : {A : Type 0} (e : SearchRefusal) → ¬ IsErrOf {T = A} (Err (from_text e)) SearchRefusal.SinkFault
 text_sink SearchRefusal.DiskFault = λ is. absurd (cc (is))
 text_sink SearchRefusal.SinkFault = λ is. absurd (cc (is))
 text_sink SearchRefusal.Damaged = λ is. absurd (cc (is))
 text_sink SearchRefusal.OutOfMemory = λ is. absurd (cc (is))
 
-pub lane_run_err : {P : Type 0} (state : P → DiskState) (x old : LaneView P) (part : P) (text : List ℕ) (e r : SearchRefusal) → r ≡ in_text e → x ≡ old → length x.fronts ≤ 65536
+pub lane_run_err : {P : Type 0} (state : P → DiskState) (x old : LaneView P) (part : P) (text : List ℕ) (e r : SearchRefusal) → r ≡ from_text e → x ≡ old → length x.fronts ≤ 65536
     → IsLaneSearch (state x.part) (state part) (scope_of state x) x.fronts text (Err e) → IsLaneRun state old (record x { part = part; left = left_of text x.left.counts x.left.opened (Err r) })
 lane_run_err state x old part text e r is same few ran =
     subst (λ (y : SearchRefusal). IsLaneRun state old (record x { part = part; left = left_of text x.left.counts x.left.opened (Err y) })) (sym is)
-    (lane_run_is state x old part (left_of text x.left.counts x.left.opened (Err (in_text e))) same few ran.rests ran.reads
+    (lane_run_is state x old part (left_of text x.left.counts x.left.opened (Err (from_text e))) same few ran.rests ran.reads
     (text_counts (state x.part).faults (state part).faults e ran.counts) (text_sink e) tt ran.stopped (λ no. ran.damaged (text_damaged e no)))
 
 other_error : {A B : Type 0} (e x : SearchRefusal) → IsErrOf {T = A} (Err e) x → IsErrOf {T = B} (Err e) x

@@ -7,8 +7,8 @@ from_print PrintRefusal.Damaged = SearchRefusal.Damaged
 from_print PrintRefusal.OutOfMemory = SearchRefusal.OutOfMemory
 
 -- a text that cannot grow is want of memory
-abbrev pub in_text : SearchRefusal → SearchRefusal
-in_text SearchRefusal.DiskFault = SearchRefusal.DiskFault
-in_text SearchRefusal.SinkFault = SearchRefusal.OutOfMemory
-in_text SearchRefusal.Damaged = SearchRefusal.Damaged
-in_text SearchRefusal.OutOfMemory = SearchRefusal.OutOfMemory
+abbrev pub from_text : SearchRefusal → SearchRefusal
+from_text SearchRefusal.DiskFault = SearchRefusal.DiskFault
+from_text SearchRefusal.SinkFault = SearchRefusal.OutOfMemory
+from_text SearchRefusal.Damaged = SearchRefusal.Damaged
+from_text SearchRefusal.OutOfMemory = SearchRefusal.OutOfMemory

@@ -1,7 +1,7 @@
 //! Why rows were not printed, and segments not searched.
 ghost use Rattle.std.specs.Prelude.{◌≡◌};
 ghost use Rattle.search_engine.specs.declared.refusal.PrintRefusal.TheVariants.{OutOfMemory as NoMemory};
-ghost use Rattle.search_engine.specs.Refused.{in_text, from_print};
+ghost use Rattle.search_engine.specs.Refused.{from_print, from_text};
 
 use search_walk::SearchRefusal;
 use std::alloc::AllocError;
@@ -39,7 +39,7 @@ impl From<PrintRefusal> for SearchRefusal {
 
 /// The refusal of a search into a text: one that cannot grow is want of memory.
 pub(crate) fn in_text(refusal: SearchRefusal) -> SearchRefusal
-    ensures { result ≡ in_text refusal }
+    ensures { result ≡ from_text refusal }
 {
     match refusal {
         SearchRefusal::SinkFault => SearchRefusal::OutOfMemory,
