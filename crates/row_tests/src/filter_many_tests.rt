@@ -31,7 +31,7 @@ fn type_text(alloc: Global, number: u32, slots: u32) -> Result<Vec<u8>, AllocErr
 }
 
 fn many_books(alloc: Global, size: Size) -> Result<Books, Fail> {
-    let mut books = Books::new(alloc, 1, size.0);
+    let mut books = Books::new(alloc, 1, size.0.max(1).min(65_536));
     for number in 0..size.0 {
         let text = type_text(alloc, number, size.1)?;
         books.add_type(text.as_slice()).ok().ok_or("a log type")?;
@@ -122,7 +122,7 @@ fn holds(alloc: Global, books: &Books, size: Size, asked: &Asked) -> Result<bool
         words.extend_from_slice(&[*whole, *word, DECIMAL])?;
     }
     let first = row_of(0, 0, 0, words.as_slice());
-    let last = row_of(0, 0, size.0 - 1, words.as_slice());
+    let last = row_of(0, 0, size.0.saturating_sub(1), words.as_slice());
     Ok(
         is_told(&filter, &plan, books, first, *listed)
             && is_told(&filter, &plan, books, last, *unlisted),

@@ -27,8 +27,8 @@ fn take_pages<D: Disk, W: TakesPages>(
     known: Option<&[u32]>,
     buffer: &mut Vec<u8>,
 ) -> Result<(), SearchRefusal>
-    requires first { pages.pages.row ≡ 0 }
-    requires small { label.number + pages.pages.rows + 4096 < 2 ^ 64 }
+    requires begins { (pages.pages.row ≡ 0)
+        × (label.number + pages.pages.rows + 4096 < 2 ^ 64) }
     requires served { W.served work.old context.now held.old }
     requires told { (D.state disk.old).seen ≡ context.now.names.told }
     requires known { IfSome known (λ types. TellAhead (D.state disk.old).seen pages

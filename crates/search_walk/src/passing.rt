@@ -230,8 +230,8 @@ pub(crate) fn take_next<D: Disk, W: TakesPages>(
     buffer: &mut Vec<u8>,
 ) -> Result<u32, SearchRefusal>
     requires left { IsLeft pages.old label.number }
-    requires served { W.served work.old context.now held.old }
-    requires told { (D.state disk.old).seen ≡ context.now.names.told }
+    requires ready { W.served work.old context.now held.old
+        × ((D.state disk.old).seen ≡ context.now.names.told) }
     requires ahead { IfSome ahead.known (λ types. TellLeft (D.state disk.old).seen pages.old
         context.now.names context.now.query (drop ahead.gone types.now)) }
 

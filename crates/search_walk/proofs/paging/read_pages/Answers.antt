@@ -19,6 +19,9 @@ returns-in_err-told-clause-stopped g c =
     on_err c.from_residual.result _
     (left_all (g.W.TakesPages.halts w w n q) (g.D.Disk.state c.args.disk.now).seen c.args.pages n c.args.label.name.now c.args.label.number (λ xs. g.met.W.TakesPages.stops_within w w n q [] xs (g.met.W.TakesPages.stops_here w n q)))
 
+pub take_pages-requires-clause-begins : goal.take_pages-requires-clause-begins
+take_pages-requires-clause-begins g c = (c.requires.first, c.requires.small)
+
 pub take_pages-requires-clause-known : goal.take_pages-requires-clause-known
 take_pages-requires-clause-known g c =
     known_ahead c.known_of-known.result (λ types. types.now) _ (g.D.Disk.state c.args.disk.now).seen (g.D.Disk.state c.read_ahead.new.disk).seen c.args.pages c.args.context.now.names c.args.context.now.query _ _ c.read_ahead.ensures.reads.rests.seen

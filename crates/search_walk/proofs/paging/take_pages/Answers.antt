@@ -1,4 +1,4 @@
-use Rattle.std.proofs.Common.{◌<◌, [], arith, rules, refl}
+use Rattle.std.proofs.Common.{◌<◌, ◌∙◌, [], arith, rules, refl}
 use Rattle.segment_pages.proofs.PageLemmas.{none_left}
 use Rattle.search_walk.specs.Held.{Named}
 use Rattle.search_walk.proofs.AnswerLemmas.{if_some_to, on_err}
@@ -11,7 +11,7 @@ loop-pages-init g c =
     let n : Named = c.args.context.now.names in
     let q = c.args.context.now.query in
     let w = c.args.work.now in
-    (pages_first (g.W.TakesPages.reaches w w n q) (g.D.Disk.state c.args.disk.now) c.args.pages n c.args.label.name.now c.args.label.number (g.met.W.TakesPages.passes_over w n q [] refl refl) c.requires.first, refl, refl, c.requires.served)
+    (pages_first (g.W.TakesPages.reaches w w n q) (g.D.Disk.state c.args.disk.now) c.args.pages n c.args.label.name.now c.args.label.number (g.met.W.TakesPages.passes_over w n q [] refl refl) c.requires.begins.0, refl, refl, c.requires.served)
 
 pub returns-in_err-rows-clause-reads : goal.returns-in_err-rows-clause-reads
 returns-in_err-rows-clause-reads g c = pages_reads _ _ _ _ _ c.args.pages c.loop-pages.pages _ c.args.label.name.now c.args.label.number c.loop-pages.at c.loop-pages.invariant.0 c.take_next.ensures.reads
@@ -60,7 +60,10 @@ returns-in_err-rows-clause-damaged g c = λ is stands.
 pub take_next-requires-clause-left : goal.take_next-requires-clause-left
 take_next-requires-clause-left g c =
     let page : c.loop-pages.pages.pages.row < c.loop-pages.pages.pages.rows = search rules in
-    record { page = page; fits = omega (arith, page, c.loop-pages.invariant.0.place, c.loop-pages.invariant.0.same.2, c.requires.small) }
+    record { page = page; fits = omega (arith, page, c.loop-pages.invariant.0.place, c.loop-pages.invariant.0.same.2, c.requires.begins.1) }
+
+pub take_next-requires-clause-ready : goal.take_next-requires-clause-ready
+take_next-requires-clause-ready g c = (c.loop-pages.invariant.3, c.loop-pages.invariant.0.reads.rests.seen ∙ c.requires.told)
 
 pub take_next-requires-clause-ahead : goal.take_next-requires-clause-ahead
 take_next-requires-clause-ahead g c =
@@ -69,4 +72,4 @@ take_next-requires-clause-ahead g c =
     let past = c.loop-pages.invariant.0 in
     if_some_to c.args.known _ _
     (λ types ahead. known_here (g.W.TakesPages.reaches c.args.work.now c.loop-pages.work n q) (g.D.Disk.state c.args.disk.now).seen (g.D.Disk.state c.loop-pages.disk).seen (g.D.Disk.state c.args.disk.now) (g.D.Disk.state c.loop-pages.disk) c.args.pages
-    c.loop-pages.pages n q c.args.label.name.now c.args.label.number c.loop-pages.at _ types.now past.reads.rests.seen c.requires.first (search rules) refl past ahead) c.requires.known
+    c.loop-pages.pages n q c.args.label.name.now c.args.label.number c.loop-pages.at _ types.now past.reads.rests.seen c.requires.begins.0 (search rules) refl past ahead) c.requires.known
