@@ -43,7 +43,7 @@ returns-in_err-all-then-len-gt1-clause-stopped g c =
     (fronts_unsent (g.D.Disk.state c.args.disk.now).seen s.names s.files s.query c.args.fronts.now a a.written a.ticks _ _ (λ all. halts_here s.names s.query all a a.written a.ticks (front_none a.written a.written a.pending.gathered refl) refl) refl)
 
 pub search_lent-requires-clause-lanes : goal.search_lent-requires-clause-lanes
-search_lent-requires-clause-lanes g c =
+search_lent-requires-clause-lanes g c = λ _ _.
     let s = c.args.crew.now.context.now in
     let d1 = g.D.Disk.state c.lend_lanes.new.disk in (
       s,

@@ -5,7 +5,7 @@ use Rattle.search_engine.proofs.TurnLemmas.{back_whole, counts_of}
 use Rattle.search_engine.proofs.beside.search_lent.Goals as goal
 
 pub search_turns-answer-requires-clause-lanes : goal.search_turns-answer-requires-clause-lanes
-search_turns-answer-requires-clause-lanes g c =
+search_turns-answer-requires-clause-lanes g c = λ _ _.
     let s : Scope = c.requires.lanes.0 in
     (s, c.requires.lanes.1, subst (λ l. All (IsLane g.D.Part.Disk.state (g.D.Disk.state c.args.disk.now) s c.args.fronts.now) l) (sym c.as_mut_slice.ensures.value) c.requires.lanes.2)
 

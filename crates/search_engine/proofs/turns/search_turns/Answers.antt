@@ -4,6 +4,7 @@ use Rattle.std.proofs.Common.{◌≡◌, ◌++◌, ◌∙◌, ap, arith, length,
 use Rattle.std.proofs.lemmas.List.{append_assoc}
 use Rattle.archive_places.specs.declared.front.SegmentFront.{SegmentFront}
 use Rattle.search_walk.specs.Opened.{NoFronts}
+use Rattle.search_walk.specs.StepsScope.{Scope}
 use Rattle.search_engine.specs.Lanes.{IsFresh, IsLane}
 use Rattle.search_engine.specs.SegmentsDone.{SearchedFronts, StoppedFronts}
 use Rattle.search_engine.specs.StepsWaiting.{reaches_none}
@@ -43,7 +44,7 @@ share_all-requires-clause-serves g c =
     }
 
 pub run_turn-requires-clause-fresh : goal.run_turn-requires-clause-fresh
-run_turn-requires-clause-fresh g c = subst (λ l. All (IsFresh g.P.Disk.state) l) (sym c.share_all.ensures.kept) c.loop-left.invariant.fresh
+run_turn-requires-clause-fresh g c = λ _ _. subst (λ l. All (IsFresh g.P.Disk.state) l) (sym c.share_all.ensures.kept) c.loop-left.invariant.fresh
 
 pub loop-left-preserved : goal.loop-left-preserved
 loop-left-preserved g c =
