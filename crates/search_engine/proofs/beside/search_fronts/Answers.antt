@@ -29,17 +29,17 @@ returns-in_err-lanes-clause-stopped g c =
     on_err c.from_residual.result _
     (fronts_unsent (g.D.Disk.state c.args.disk.now).seen s.names s.files s.query c.args.fronts.now a a.written a.ticks _ _ (λ all. halts_here s.names s.query all a a.written a.ticks (front_none a.written a.written a.pending.gathered refl) refl) refl)
 
-pub returns-in_err-all-then-len-gt1-clause-rests : goal.returns-in_err-all-then-len-gt1-clause-rests
-returns-in_err-all-then-len-gt1-clause-rests g c = c.lend_lanes.ensures.lends.rests
+pub returns-in_err-all-clause-rests : goal.returns-in_err-all-clause-rests
+returns-in_err-all-clause-rests g c = c.lend_lanes.ensures.lends.rests
 
-pub returns-in_err-all-then-len-gt1-clause-reads : goal.returns-in_err-all-then-len-gt1-clause-reads
-returns-in_err-all-then-len-gt1-clause-reads g c = lanes_unread (g.D.Disk.state c.args.disk.now) (g.D.Disk.state c.lend_lanes.new.disk) c.args.crew.now.context.now c.args.fronts.now c.lend_lanes.ensures.lends
+pub returns-in_err-all-clause-reads : goal.returns-in_err-all-clause-reads
+returns-in_err-all-clause-reads g c = lanes_unread (g.D.Disk.state c.args.disk.now) (g.D.Disk.state c.lend_lanes.new.disk) c.args.crew.now.context.now c.args.fronts.now c.lend_lanes.ensures.lends
 
-pub returns-in_err-all-then-len-gt1-clause-stopped : goal.returns-in_err-all-then-len-gt1-clause-stopped
-returns-in_err-all-then-len-gt1-clause-stopped g c =
+pub returns-in_err-all-clause-stopped : goal.returns-in_err-all-clause-stopped
+returns-in_err-all-clause-stopped g c =
     let s = c.args.crew.now.context.now in
     let a = state (g.K.Sink.written c.args.out.now) c.args.batch.now c.args.expanded.now in
-    on_err c.from_residual-in_err-all-then-len-gt1.result _
+    on_err c.from_residual-in_err-all.result _
     (fronts_unsent (g.D.Disk.state c.args.disk.now).seen s.names s.files s.query c.args.fronts.now a a.written a.ticks _ _ (λ all. halts_here s.names s.query all a a.written a.ticks (front_none a.written a.written a.pending.gathered refl) refl) refl)
 
 pub search_lent-requires-clause-lanes : goal.search_lent-requires-clause-lanes
@@ -47,7 +47,7 @@ search_lent-requires-clause-lanes g c = λ _ _.
     let s = c.args.crew.now.context.now in
     let d1 = g.D.Disk.state c.lend_lanes.new.disk in (
       s,
-      subst (λ h. Serves s.names h) (sym c.in_ok-all-then-len-gt1.ensures) c.requires.served.serves,
+      subst (λ h. Serves s.names h) (sym c.in_ok-all.ensures) c.requires.served.serves,
       subst (λ (x : Scope). All (IsLane g.D.Part.Disk.state d1 x c.args.fronts.now) c.in_ok-lanes.lanes.items) (sym c.requires.is) (c.in_ok-lanes.ensures.lanes c.args.fronts.now),
     )
 
