@@ -525,7 +525,7 @@ fn two_pages(alloc: Global, row: usize, at: usize, byte: u8) -> Result<Vec<u8>, 
         (121, 0x88),
         (122, 0x13),
         (184, 0),
-        (45_162 + 4 * row, 1),
+        (row.saturating_mul(4).saturating_add(45_162), 1),
         (at, byte),
     ];
     grown(alloc, &LETTERS, 85_163, &changes)
