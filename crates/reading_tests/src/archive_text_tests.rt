@@ -346,12 +346,14 @@ fn stops_at(
 }
 
 /// A call of the disk, how many bytes are read where it fails, and why no more. To open the archive
-/// takes 14 calls, and a page is read by five. The first piece of the text is 65,537 bytes, of which
-/// the last two are those of the first row of the ninth page.
+/// takes 14 calls, and a page is read by five. The first two pieces of the text are 32,769 and 32,768
+/// bytes: the last two bytes of each are those of the first row of the fifth and of the ninth page.
 const STOPS: &[(u64, usize, Option<TextCause>)] = &[
     (999, 80_000, None),
     (14, 0, Some(TextCause::DiskFault)),
-    (58, 0, Some(TextCause::DiskFault)),
+    (38, 0, Some(TextCause::DiskFault)),
+    (39, 32_769, Some(TextCause::DiskFault)),
+    (58, 32_769, Some(TextCause::DiskFault)),
     (59, 65_537, Some(TextCause::DiskFault)),
     (63, 65_537, Some(TextCause::DiskFault)),
     (64, 80_000, None),
