@@ -1,4 +1,4 @@
--- Where the words and the heads of a journal stand.
+-- Where the log types, the words and the heads of a journal stand.
 use Rattle.std.specs.Prelude.{ℕ, List, All}
 use Rattle.record_format.specs.declared.header.Header.{Header}
 use Rattle.archive_meaning.specs.declared.entry.JournalEntry.{JournalEntry}
@@ -6,9 +6,15 @@ use Rattle.archive_meaning.specs.Stands.{StandsFor}
 use Rattle.archive_open.specs.Shown.{places_of}
 use Rattle.word_places.specs.Places.{AreWords}
 use Rattle.archive_places.specs.Heads.{HasHeadAt}
-use Rattle.archive_places.specs.Words.{words_places_of}
+use Rattle.archive_places.specs.Words.{types_places_of, words_places_of}
 
--- bytes that stand for a journal have its words at the places of its records of words
+-- bytes that stand for a journal have its log types at the places of its records of log types
+abbrev pub TypesStand : Type 0
+TypesStand =
+    (bytes : List ℕ) (h : Header) (es : List JournalEntry) (stood : StandsFor bytes h es)
+    → AreWords 0 (types_places_of es) bytes stood.legal.held.types
+
+-- its words at those of its records of words
 abbrev pub WordsStand : Type 0
 WordsStand =
     (bytes : List ℕ) (h : Header) (es : List JournalEntry) (stood : StandsFor bytes h es)

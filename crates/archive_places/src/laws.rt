@@ -1,5 +1,12 @@
-//! Where the words and the heads of a journal stand: contracts of functions that do nothing.
-ghost use Rattle.archive_places.specs.Laws.{HeadsStand, WordsStand};
+//! Where the log types, the words and the heads of a journal stand: contracts of functions that do
+//! nothing.
+ghost use Rattle.archive_places.specs.Laws.{HeadsStand, TypesStand, WordsStand};
+
+/// Where the bytes of a disk stand for a journal, its log types stand at the places of its records of log
+/// types.
+pub fn types_stand()
+    ensures { TypesStand }
+{}
 
 /// Where the bytes of a disk stand for a journal, its words stand at the places of its records of words.
 pub fn words_stand()

@@ -1,7 +1,8 @@
-//! Opening an archive by places: its words and the lists of its heads are left on the disk.
+//! Opening an archive by places: its log types, its words and the lists of its heads are left on the
+//! disk.
 //!
-//! What is kept of each record is what its front says: of words where they stand and their numbers, of a
-//! segment the fixed part of its head. Names of files and log types are kept whole.
+//! What is kept of each record is what its front says: of log types and of words where they stand and
+//! their numbers, of a segment the fixed part of its head. Names of files are kept whole.
 #![tactic(auto)]
 
 mod front;
@@ -12,10 +13,10 @@ mod open;
 mod opening;
 mod places;
 mod segments;
-mod types;
+mod texts;
 
 pub use front::{FrontList, SegmentFront};
 pub use heads::load_segment;
-pub use laws::{heads_stand, words_stand};
+pub use laws::{heads_stand, types_stand, words_stand};
 pub use open::open_places;
 pub use places::{PlaceList, Places};

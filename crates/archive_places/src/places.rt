@@ -2,21 +2,22 @@
 
 use crate::front::FrontList;
 use archive_open::FileList;
-use dict_core::Texts;
 use plain_list::ListOf;
 use record_format::Header;
 use word_places::WordsPlace;
 
-/// Places of records of words, in the order of their numbers.
+/// Places of records of log types or of words, in the order of their numbers.
 pub type PlaceList = ListOf<WordsPlace>;
 
-/// What [`open_places`](crate::open_places) found: names and log types, and where the rest stands.
+/// What [`open_places`](crate::open_places) found: the names of files, and where the rest stands.
 #[derive(Drop)]
 pub struct Places {
     /// The header.
     pub header: Header,
-    /// The texts of log types, each at its number.
-    pub types: Texts,
+    /// Where the records of log types stand, in the order of their numbers.
+    pub types: PlaceList,
+    /// How many log types these have.
+    pub types_count: u32,
     /// Where the records of words stand, in the order of their numbers.
     pub words: PlaceList,
     /// The files, each at its number.

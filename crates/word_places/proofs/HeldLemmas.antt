@@ -191,7 +191,7 @@ none_at (Some bytes) places at p is none = λ words are.
 
 -- ---- the words of the bytes
 
-one_payload : (p : WordsPlace) (payload : List ℕ) (a b : List (List ℕ)) → Spells p payload a → Spells p payload b → a ≡ b
+pub one_payload : (p : WordsPlace) (payload : List ℕ) (a b : List (List ℕ)) → Spells p payload a → Spells p payload b → a ≡ b
 one_payload p payload a b one two = (one_texts p.first p.first a b one.first one.first one.are two.are (sym one.spelled ∙ two.spelled)).1
 
 -- as many as are lent

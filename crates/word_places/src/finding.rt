@@ -11,7 +11,7 @@ ghost use Rattle.word_places.specs.StepsFound.{AddsEach};
 
 use crate::needle::Needle;
 use crate::pass::add_holders;
-use crate::place::WordsPlace;
+use crate::place::{WordsPlace, place_at};
 use crate::reading::load;
 use crate::refusal::HoldRefusal;
 use log_seams::Disk;
@@ -140,14 +140,6 @@ fn add_record<D: Disk>(
         return Err(HoldRefusal::Damaged);
     }
     Ok(())
-}
-
-// The place at an index.
-fn place_at(places: &[WordsPlace], index: usize) -> WordsPlace
-    requires { index < length places.now }
-    ensures { slice_get places.now index ≡ Some result }
-{
-    places[index]
 }
 
 /// The numbers of those words that have a needle, in order, a list for each needle. The payload of each

@@ -12,6 +12,7 @@ use crate::lending::{number_in, text_in};
 use crate::place::WordsPlace;
 use crate::sharing::SharedWords;
 use crate::type_slots::{slots_at, slots_of};
+use crate::types::TypeTexts;
 use column_store::RowRef;
 use dict_core::Texts;
 use row_codec::Names;
@@ -36,7 +37,7 @@ pub struct HeldRecord {
 /// What all shares of the words have: it does not change.
 #[derive(Drop)]
 pub(crate) struct Common {
-    types: Texts,
+    types: TypeTexts,
     /// Of each of the first log types the bytes that stand for its slots.
     slots: Texts,
     /// Where the record of a number is looked for first.
@@ -88,7 +89,7 @@ impl HeldWords {
     /// of this version.
     pub fn new(
         alloc: Global,
-        types: Texts,
+        types: TypeTexts,
         version: u32,
         places: &[WordsPlace],
     ) -> Result<HeldWords, AllocError>

@@ -1,8 +1,9 @@
-//! Words that stay on the disk: where each record of them stands, and what reads them from there.
+//! Log types and words that stay on the disk: where each record of them stands, and what reads them from
+//! there.
 //!
-//! An archive that is opened for reading keeps of its records of words the places alone. A search reads
-//! what it asks: one pass over the payloads finds the words that hold a needle, and the words of a row
-//! are read with their record when they are first wanted.
+//! An archive that is opened for reading keeps of these records the places alone. A search reads what it
+//! asks. The log types are read before it begins. One pass over the payloads of words finds those that
+//! hold a needle, and the words of a row are read with their record when they are first wanted.
 #![tactic(auto)]
 
 mod finding;
@@ -22,6 +23,7 @@ mod refusal;
 mod sharing;
 mod slots;
 mod type_slots;
+mod types;
 
 pub use finding::find_words;
 pub use held::{HeldRecord, HeldWords};
@@ -32,3 +34,4 @@ pub use place::WordsPlace;
 pub use record::RecordWords;
 pub use refusal::HoldRefusal;
 pub use sharing::SharedWords;
+pub use types::TypeTexts;

@@ -1,7 +1,8 @@
-//! Where words stand on a disk.
-ghost use Rattle.std.specs.Prelude.{◌≡◌, ◌↔◌, IsTrue};
+//! Where log types and words stand on a disk.
+ghost use Rattle.std.specs.Prelude.{◌≡◌, ◌<◌, ◌↔◌, IsTrue, Some, length, slice_get};
 
-/// Where the payload of a record of words stands on a disk, and which words it has.
+/// Where the payload of a record of words stands on a disk, and which words it has. The place of a record
+/// of log types is told alike.
 #[derive(Clone, Copy, Debug, PartialEq, Eq)]
 pub struct WordsPlace {
     /// The place of its first byte.
@@ -21,4 +22,12 @@ impl WordsPlace {
     {
         first == self.first && count == self.count
     }
+}
+
+/// The place at an index.
+pub(crate) fn place_at(places: &[WordsPlace], index: usize) -> WordsPlace
+    requires { index < length places.now }
+    ensures { slice_get places.now index ≡ Some result }
+{
+    places[index]
 }

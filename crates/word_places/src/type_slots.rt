@@ -4,31 +4,25 @@ ghost use Rattle.row_codec.specs.Numbers.{kinds_from};
 ghost use Rattle.word_places.specs.StepsHeld.{HaveSlots};
 
 use crate::slots::read_kind;
+use crate::types::TypeTexts;
 use dict_core::Texts;
 use std::alloc::{AllocError, Global};
 
-// The text with a number, which is empty where there is none.
+/// What tells the slots of a log type: their bytes, where these are kept, or else its whole text, which is
+/// empty where there is none.
 #[inline]
-fn text_at(texts: &Texts, number: u32) -> &[u8]
-    ensures { result.now ≡ slice_index_or texts.now number [] }
-{
-    match texts.text_of(number) {
-        Some(text) => text,
-        None => &[],
-    }
-}
-
-/// What tells the slots of a log type: their bytes, where these are kept, or else its whole text.
-#[inline]
-pub(crate) fn slots_at<'t>(slots: &'t Texts, types: &'t Texts, number: u32) -> &'t [u8]
+pub(crate) fn slots_at<'t>(slots: &'t Texts, types: &'t TypeTexts, number: u32) -> &'t [u8]
     requires { HaveSlots types.now slots.now }
     ensures { kinds_from false result.now
         ≡ kinds_from false (slice_index_or types.now number []) }
 {
-    if number < slots.len() {
-        return text_at(slots, number);
+    if let Some(kept) = slots.text_of(number) {
+        return kept;
     }
-    text_at(types, number)
+    match types.text_of(number) {
+        Some(text) => text,
+        None => &[],
+    }
 }
 
 // The bytes of a log type's text that stand for its slots, put into a buffer that is empty.
@@ -50,14 +44,17 @@ fn push_slots(text: &[u8], slots: &mut Vec<u8>) -> Result<(), AllocError>
 
 /// Of each of the first log types, so many at most, the bytes that stand for its slots: what tells which
 /// numbers of a row are words, in a few bytes for each.
-pub(crate) fn slots_of(alloc: Global, types: &Texts, most: u32) -> Result<Texts, AllocError>
+pub(crate) fn slots_of(alloc: Global, types: &TypeTexts, most: u32) -> Result<Texts, AllocError>
     ensures { IfOk result (λ slots. HaveSlots types.now slots) }
 {
     let mut all = Texts::new(alloc);
     let mut slots = Vec::new(alloc);
-    for number in 0..types.len().min(most) {
+    for number in 0..most {
+        let Some(text) = types.text_of(number) else {
+            return Ok(all);
+        };
         slots.clear();
-        push_slots(text_at(types, number), &mut slots)?;
+        push_slots(text, &mut slots)?;
         all.push(slots.as_slice())?;
     }
     Ok(all)
