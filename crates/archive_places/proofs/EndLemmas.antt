@@ -1,5 +1,5 @@
 -- How opening by places begins and ends.
-use Rattle.std.proofs.Common.{◌≡◌, ℕ, zero, suc, ◌+◌, ◌-◌, ◌<◌, List, [], ◌∷◌, length, map, get_or, set, Option, Some, None, refl, sym, ◌∙◌, ap, subst, arith}
+use Rattle.std.proofs.Common.{◌≡◌, ℕ, zero, suc, ◌+◌, ◌-◌, ◌^◌, ◌<◌, ◌≤◌, List, [], ◌∷◌, length, map, get_or, set, Option, Some, None, refl, sym, ◌∙◌, ap, subst, arith}
 use Rattle.std.specs.List.Sorted.{IsPermutation, IsNonDecreasingBy, SwapsInRange, apply_swaps}
 use Rattle.std.specs.List.{swap}
 use Rattle.std.proofs.lemmas.List.{length-map, map-set}
@@ -9,13 +9,14 @@ use Rattle.disk_journal.specs.State.{JournalState}
 use Rattle.archive_open.specs.declared.segments.SegmentPlace.{SegmentPlace}
 use Rattle.archive_open.specs.Shown.{IsLastGate, Looks, order_of, places_of}
 use Rattle.archive_open.specs.Walk.{AreWhole, EndsWith, Keeping, LastGateTold}
-use Rattle.word_places.specs.declared.place.WordsPlace.{WordsPlace}
+use Rattle.word_places.specs.Places.{AreInOrder}
 use Rattle.archive_places.specs.declared.front.SegmentFront.{SegmentFront}
 use Rattle.archive_places.specs.declared.places.Places.{Places}
 use Rattle.archive_places.specs.declared.opening.Opening.{Opening}
 use Rattle.archive_places.specs.Fronts.{front_of_place, order_of_front}
-use Rattle.archive_places.specs.Opened.{EndsAtGate, OpensPlaces}
-use Rattle.archive_places.specs.StepsPlaced.{IsPlaced, Placing, PlacesOf, RunOn, placing_of}
+use Rattle.archive_places.specs.Opened.{ArePlacesOrdered, EndsAtGate, OpensPlaces}
+use Rattle.archive_places.specs.StepsPlaced.{AreInRun, IsInRun, IsListing, IsPlaced, Listing, Placing, PlacesOf, no_listing, placing_of}
+use Rattle.archive_places.proofs.TextLemmas.{run_in_order}
 
 -- ---- segments in order
 
@@ -61,29 +62,29 @@ has_order places fronts same sorted =
 
 -- ---- the beginning
 
-pub none_placed : (p : Placing) (h : Header) → p.types ≡ [] → p.types_limit ≡ h.types_limit → p.words ≡ [] → p.words_count ≡ 0 → p.words_limit ≡ h.words_limit → p.files ≡ [] → p.segments ≡ []
-    → PlacesOf p h []
-none_placed p h types types_limit words words_count words_limit files segments held run =
+none_listed : (l : Listing) (limit : ℕ) → l ≡ no_listing limit → IsListing l [] [] limit
+none_listed l limit none = subst (λ (x : Listing). IsListing x [] [] limit) (sym none) (record { places = refl; count = refl; limit = refl })
+
+pub none_placed : (p : Placing) (h : Header) → p.types ≡ no_listing h.types_limit → p.words ≡ no_listing h.words_limit → p.files ≡ [] → p.segments ≡ [] → PlacesOf p h []
+none_placed p h types words files segments held run =
     subst (λ x. IsPlaced p h [] x) (sym run) (record {
-      types = types;
-      types_limit = types_limit;
-      words = words;
-      words_count = words_count;
-      words_limit = words_limit;
+      types = none_listed p.types h.types_limit types;
+      words = none_listed p.words h.words_limit words;
       files = files;
       segments = segments;
     })
 
-pub none_in_run : (words : List WordsPlace) (count : ℕ) → words ≡ [] → count ≡ 0 → RunOn 0 words count
-none_in_run words count none zero_of = subst (λ (ps : List WordsPlace). RunOn 0 ps count) (sym none) (sym zero_of)
+pub none_in_run : (p : Placing) (types words : ℕ) → p.types ≡ no_listing types → p.words ≡ no_listing words → AreInRun p
+none_in_run p types words no_types no_words = (subst IsInRun (sym no_types) refl, subst IsInRun (sym no_words) refl)
 
 -- ---- the end
 
 -- what was found, by what was kept of all records
 pub record IsFound (a : Places) (o : Opening) (h : Header) (place count : ℕ) : Type 0 where
   pub header : a.header ≡ h
-  pub types : a.types ≡ o.types
-  pub words : a.words ≡ o.words.items
+  pub types : a.types ≡ o.types.places.items
+  pub types_count : a.types_count ≡ o.types.count
+  pub words : a.words ≡ o.words.places.items
   pub files : a.files ≡ o.files.items
   pub same : IsPermutation o.segments.items a.segments
   pub sorted : IsNonDecreasingBy order_of_front a.segments
@@ -99,8 +100,9 @@ opens_told (Some bytes) o header place count a whole is = λ h es stood.
     let order = has_order (places_of es) a.segments (subst (λ (l : List SegmentFront). IsPermutation l a.segments) placed.segments is.same) is.sorted in
     record {
       header = is.header ∙ sym w.one;
-      types = is.types ∙ placed.types;
-      words = is.words ∙ placed.words;
+      types = is.types ∙ placed.types.places;
+      types_count = is.types_count ∙ placed.types.count;
+      words = is.words ∙ placed.words.places;
       files = is.files ∙ placed.files;
       ordered = order.ordered;
       are = order.are;
@@ -114,6 +116,13 @@ pub opens : (o : Opening) (old new : JournalState) (a : Places) → Looks old ne
 opens o old new a looks ends is =
     opens_told old.disk.seen o new.header new.place new.count a (subst (λ s. AreWhole (PlacesOf (placing_of o)) new.header new.place new.count s) looks.rests.seen ends.whole)
     (subst (λ (h : Header). IsFound a o h new.place new.count) (sym looks.header) is)
+
+-- the places of both kinds go on with their numbers
+pub in_order : (o : Opening) (a : Places) → a.types ≡ o.types.places.items → a.words ≡ o.words.places.items → AreInRun (placing_of o) → o.types.count ≤ 2 ^ 32 → o.words.count ≤ 2 ^ 32 → ArePlacesOrdered a
+in_order o a types words run few_types few_words = (
+  subst (AreInOrder 0) (sym types) (run_in_order 0 o.types.places.items o.types.count run.0 few_types),
+  subst (AreInOrder 0) (sym words) (run_in_order 0 o.words.places.items o.words.count run.1 few_words),
+)
 
 last_gate_told : (seen : Option (List ℕ)) (place : ℕ) (a : Places) → LastGateTold place seen → a.end ≡ place + 1 → EndsAtGate seen a
 last_gate_told None place a last end = tt

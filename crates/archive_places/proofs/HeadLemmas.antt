@@ -24,7 +24,7 @@ use Rattle.archive_places.specs.Fronts.{fixed_in, front_of_place}
 use Rattle.archive_places.specs.Heads.{HasHeadAt, OfFront}
 use Rattle.archive_places.specs.StepsHeads.{HasFlags, HasNumbers, placed_by}
 use Rattle.archive_places.specs.Laws.{HeadsStand}
-use Rattle.archive_places.proofs.WordLemmas.{behind_entry, types_behind}
+use Rattle.archive_places.proofs.TextLemmas.{behind_entry, types_behind}
 
 -- ---- where they stand
 

@@ -1,5 +1,4 @@
-pub mod WordLemmas
+pub mod TextLemmas
 pub mod PlacedLemmas
 pub mod EndLemmas
-pub mod TypeLemmas
 pub mod HeadLemmas

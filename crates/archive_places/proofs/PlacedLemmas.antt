@@ -1,5 +1,5 @@
 -- How what was kept by places goes on with a record.
-use Rattle.std.proofs.Common.{◌≡◌, ℕ, ◌+◌, ◌^◌, ◌<◌, ◌≤◌, List, [], ◌∷◌, ◌++◌, length, map, take, drop, get_or, set, sym, ◌∙◌, ap, subst, arith, length-append}
+use Rattle.std.proofs.Common.{◌≡◌, ℕ, ◌+◌, ◌^◌, ◌<◌, ◌≤◌, List, [], ◌∷◌, ◌++◌, length, map, take, drop, get_or, set, refl, sym, ◌∙◌, ap, subst, arith, length-append}
 use Rattle.std.specs.Prelude.{Option, Some, None, IfSome}
 use Rattle.std.proofs.lemmas.List.{append-nil, append_assoc, map-append, take-append-drop, take-take, take_at}
 use Rattle.std.specs.List.{flat_map}
@@ -7,6 +7,7 @@ use Rattle.log_seams.specs.Disk.{DiskState, ReadsOnly}
 use Rattle.record_format.specs.declared.header.Header.{Header}
 use Rattle.record_format.specs.Lists.{AreTexts, files_payload, four_bytes, list_bytes, text_bytes, texts_payload}
 use Rattle.record_format.proofs.ListLemmas.{no_front, same_number}
+use Rattle.row_codec.specs.declared.namer.Which.{Which}
 use Rattle.row_codec.specs.declared.namer.Which.TheVariants as which
 use Rattle.segment_format.specs.declared.head.Head.{Head}
 use Rattle.segment_format.specs.declared.fixed.Fixed.{Fixed}
@@ -20,29 +21,44 @@ use Rattle.archive_meaning.specs.declared.entry.JournalEntry.TheVariants.{Files,
 use Rattle.archive_meaning.specs.Held.{Held}
 use Rattle.archive_meaning.specs.Spelled.{front_of, record_of, types_of}
 use Rattle.archive_meaning.specs.Stands.{IsLegal}
+use Rattle.word_places.specs.declared.place.WordsPlace.{WordsPlace}
 use Rattle.archive_open.specs.declared.files.FileEntry.{FileEntry}
 use Rattle.archive_open.specs.declared.segments.SegmentPlace.{SegmentPlace}
-use Rattle.archive_open.specs.Kept.{MayHold}
-use Rattle.archive_open.specs.Shown.{files_of, head_in, places_of}
+use Rattle.archive_open.specs.Kept.{limit_of, texts_of}
+use Rattle.archive_open.specs.Shown.{files_of, head_in, kept_of, places_of}
 use Rattle.archive_open.specs.StepsFiles.{no_file}
 use Rattle.archive_open.specs.StepsNext.{HasHead, new_file}
 use Rattle.archive_open.specs.Walk.{IsNext, KeepsNext, KeepsTold, NoneNext, NoneTold, ReadsOf, ReadsWithin, StandsWhole, payload_in, shown_len}
-use Rattle.archive_open.proofs.NextLemmas.{files_entry, files_more, files_named, follows, is_segment, is_texts, may_follow, may_go_on, next_form, own_follows, own_head, places_more, texts_entry}
+use Rattle.archive_open.proofs.NextLemmas.{entry_of, files_entry, files_more, files_named, follows, is_segment, is_texts, may_follow, may_go_on, next_form, number_of, own_follows, own_head, places_more}
 use Rattle.archive_open.proofs.ReadLemmas.{read_within}
 use Rattle.archive_open.proofs.TakenLemmas.{payload_size}
 use Rattle.archive_places.specs.declared.front.SegmentFront.{SegmentFront}
 use Rattle.archive_places.specs.Fronts.{fixed_in, front_of_place}
-use Rattle.archive_places.specs.StepsPlaced.{GoesOnBy, IsPlaced, Placing, PlacesOf, file_by, place_by, with_names, with_segment, with_types, with_words}
-use Rattle.archive_places.specs.Words.{words_places_of}
-use Rattle.archive_places.proofs.WordLemmas.{words_more}
+use Rattle.archive_places.specs.StepsPlaced.{GoesOnBy, IsListing, IsOver, IsPlaced, Listing, Placing, PlacesOf, file_by, kind_of, listing, place_by, with_names, with_place, with_segment, with_texts}
+use Rattle.archive_places.specs.Words.{texts_from, texts_place, texts_placed}
+use Rattle.archive_places.proofs.TextLemmas.{texts_more, texts_same}
 
--- ---- names and log types
+-- ---- records of texts that do not change, and one more
 
--- a record that was kept as that of its kind
-pub kept_as : (at kind n : ℕ) (payload : List ℕ) (old new next : Placing) → kind ≡ n → new ≡ next → KeepsNext at n payload (PlacesOf old) (PlacesOf next)
-    → KeepsNext at kind payload (PlacesOf old) (PlacesOf new)
-kept_as at kind n payload old new next is same keeps =
-    subst (λ k. KeepsNext at k payload (PlacesOf old) (PlacesOf new)) (sym is) (subst (λ p. KeepsNext at n payload (PlacesOf old) (PlacesOf p)) (sym same) keeps)
+-- no record of these is there more
+listing_same : (kind : Which) (h : Header) (es : List JournalEntry) (e : JournalEntry) (l : Listing) (old new : List (List ℕ)) (limit : ℕ) → IsListing l (texts_from kind 32 [] es) old limit
+    → texts_placed kind (length (front_of h es)) e ≡ [] → old ≡ new → IsListing l (texts_from kind 32 [] (es ++ e ∷ [])) new limit
+listing_same kind h es e l old new limit was none same = record {
+  places = was.places ∙ sym (texts_same kind h es e none);
+  count = was.count ∙ ap length same;
+  limit = was.limit;
+}
+
+-- one is
+listing_more : (kind : Which) (h : Header) (es : List JournalEntry) (e : JournalEntry) (l : Listing) (place : WordsPlace) (texts old new : List (List ℕ)) (limit : ℕ) → IsListing l (texts_from kind 32 [] es) old limit
+    → texts_placed kind (length (front_of h es)) e ≡ place ∷ [] → place.count ≡ length texts → old ++ texts ≡ new → IsListing (with_place place l) (texts_from kind 32 [] (es ++ e ∷ [])) new limit
+listing_more kind h es e l place texts old new limit was one many same = record {
+  places = (λ i. was.places i ++ sym one i) ∙ sym (texts_more kind h es e);
+  count = omega (arith, was.count, many, length-append old texts, ap length same);
+  limit = was.limit;
+}
+
+-- ---- names
 
 names_step : (h : Header) (es : List JournalEntry) (names : List (List ℕ)) (old : Placing) → IsLegal h (es ++ Files names ∷ []) → PlacesOf old h es
     → PlacesOf (with_names names old) h (es ++ Files names ∷ [])
@@ -50,11 +66,8 @@ names_step h es names old legal placed more run =
     let f = follows h es (Files names) more legal run in
     let was : IsPlaced old h es f.held = placed f.held f.run in
     record {
-      types = was.types ∙ ap (λ (x : Held). x.types) (sym f.takes);
-      types_limit = was.types_limit;
-      words = was.words ∙ sym (words_more h es (Files names) ∙ append-nil (words_places_of es));
-      words_count = was.words_count ∙ ap (λ (x : Held). length x.words) (sym f.takes);
-      words_limit = was.words_limit;
+      types = listing_same which.Types h es (Files names) _ _ _ _ was.types refl (ap (λ (x : Held). x.types) (sym f.takes));
+      words = listing_same which.Words h es (Files names) _ _ _ _ was.words refl (ap (λ (x : Held). x.words) (sym f.takes));
       files = ap (λ l. l ++ map new_file names) was.files ∙ sym (files_named h es names more f);
       segments = was.segments ∙ ap (map front_of_place) (sym (places_more h es (Files names) ∙ append-nil (places_of es)));
     }
@@ -66,46 +79,32 @@ names_placed at payload names old are spells h es e next placed =
     subst (λ f. PlacesOf (with_names names old) h (es ++ f ∷ [])) (sym same)
     (names_step h es names old (subst (λ f. IsLegal h (es ++ f ∷ [])) same next.legal) placed)
 
-types_step : (h : Header) (es : List JournalEntry) (first : ℕ) (texts : List (List ℕ)) (old : Placing) → IsLegal h (es ++ Types first texts ∷ []) → PlacesOf old h es
-    → PlacesOf (with_types texts old) h (es ++ Types first texts ∷ [])
-types_step h es first texts old legal placed more run =
-    let f = follows h es (Types first texts) more legal run in
-    let was : IsPlaced old h es f.held = placed f.held f.run in
-    record {
-      types = ap (λ l. l ++ texts) was.types ∙ ap (λ (x : Held). x.types) (sym f.takes.1);
-      types_limit = was.types_limit;
-      words = was.words ∙ sym (words_more h es (Types first texts) ∙ append-nil (words_places_of es));
-      words_count = was.words_count ∙ ap (λ (x : Held). length x.words) (sym f.takes.1);
-      words_limit = was.words_limit;
-      files = was.files ∙ ap files_of (sym f.takes.1);
-      segments = was.segments ∙ ap (map front_of_place) (sym (places_more h es (Types first texts) ∙ append-nil (places_of es)));
-    }
+-- names that were loaded from a record
+pub names_told : (p : RecordPlace) (seen : Option (List ℕ)) (payload : List ℕ) (names : List (List ℕ)) (old new : Placing) → p.kind ≡ 1 → IfSome seen (λ bytes. payload ≡ payload_in p bytes)
+    → AreTexts names → payload ≡ files_payload names → new ≡ with_names names old → KeepsTold p seen (PlacesOf old) (PlacesOf new)
+names_told p None payload names old new kind these are spells same = tt
+names_told p (Some bytes) payload names old new kind these are spells same =
+    subst (λ (x : Placing). KeepsNext p.at p.kind (payload_in p bytes) (PlacesOf old) (PlacesOf x)) (sym same)
+    (subst (λ (k : ℕ). KeepsNext p.at k (payload_in p bytes) (PlacesOf old) (PlacesOf (with_names names old))) (sym kind)
+    (names_placed p.at (payload_in p bytes) names old are (sym these ∙ spells)))
 
-pub types_placed : (at : ℕ) (payload : List ℕ) (first : ℕ) (texts : List (List ℕ)) (old : Placing) → first < 2 ^ 32 → AreTexts texts → payload ≡ texts_payload first texts
-    → KeepsNext at 2 payload (PlacesOf old) (PlacesOf (with_types texts old))
-types_placed at payload first texts old fits are spells h es e next placed =
-    let same : e ≡ Types first texts = texts_entry which.Types at payload first texts h es e fits are spells next in
-    subst (λ f. PlacesOf (with_types texts old) h (es ++ f ∷ [])) (sym same)
-    (types_step h es first texts old (subst (λ f. IsLegal h (es ++ f ∷ [])) same next.legal) placed)
+-- those that may not follow
+pub names_not_told : (p : RecordPlace) (seen : Option (List ℕ)) (payload : List ℕ) (old : Placing) → p.kind ≡ 1 → IfSome seen (λ bytes. payload ≡ payload_in p bytes)
+    → NoneNext p.at 1 payload (PlacesOf old) → NoneTold p seen (PlacesOf old)
+names_not_told p None payload old kind these none = tt
+names_not_told p (Some bytes) payload old kind these none =
+    subst (λ (k : ℕ). NoneNext p.at k (payload_in p bytes) (PlacesOf old)) (sym kind) (subst (λ (l : List ℕ). NoneNext p.at 1 l (PlacesOf old)) these none)
 
--- log types that may not follow
-pub no_types : (at : ℕ) (payload : List ℕ) (old : Placing)
-    → ((first : ℕ) (texts : List (List ℕ)) → first < 2 ^ 32 → AreTexts texts → payload ≡ texts_payload first texts → first ≡ length old.types → ¬ MayHold old.types_limit (old.types ++ texts))
-    → NoneNext at 2 payload (PlacesOf old)
-no_types at payload old none h es e next placed =
-    let is = is_texts which.Types (types_of es) e payload (next_form at 2 payload h es e next) next.saved in
-    let f = own_follows h es (Types is.0 is.1.0) (subst (λ f. IsLegal h (es ++ f ∷ [])) is.1.1 next.legal) in
-    let was : IsPlaced old h es f.held = placed f.held f.run in
-    let may = may_follow which.Types h es is.0 is.1.0 _ f in
-    none is.0 is.1.0 is.1.2 is.1.3 is.1.4 (may.0 ∙ ap length (sym was.types))
-    (subst (λ (l : List (List ℕ)). MayHold old.types_limit (l ++ is.1.0)) (sym was.types) (subst (λ n. MayHold n (f.held.types ++ is.1.0)) (sym was.types_limit) may.1))
+-- ---- log types and words
 
--- ---- words
+kind_number : (kind : Which) → kind_of kind ≡ number_of kind
+kind_number which.Types = refl
+kind_number which.Words = refl
 
--- what was read of a record of words: its number and its count
-pub record IsWordsAt (p : RecordPlace) (seen : Option (List ℕ)) (first count : ℕ) : Type 0 where
+-- what was read of a record of texts: its number and its count
+pub record IsTextsAt (kind : Which) (p : RecordPlace) (seen : Option (List ℕ)) (first count : ℕ) : Type 0 where
   pub whole : StandsWhole p seen
-  pub kind : p.kind ≡ 3
+  pub kind_is : p.kind ≡ kind_of kind
   pub long : 8 ≤ p.length
   pub text : List ℕ
   pub rest : List ℕ
@@ -115,18 +114,28 @@ pub record IsWordsAt (p : RecordPlace) (seen : Option (List ℕ)) (first count :
   pub parts : text ≡ four_bytes first ++ (four_bytes count ++ rest)
 
 -- the entry of the record has them
-pub record IsWordsEntry (p : RecordPlace) (first count : ℕ) (h : Header) (es : List JournalEntry) (e : JournalEntry) : Type 0 where
+pub record IsTextsEntry (kind : Which) (p : RecordPlace) (first count : ℕ) (h : Header) (es : List JournalEntry) (e : JournalEntry) : Type 0 where
   pub texts : List (List ℕ)
-  pub entry : e ≡ Words first texts
+  pub entry : e ≡ entry_of kind first texts
   pub many : count ≡ length texts
   pub size : p.length ≡ length (texts_payload first texts)
 
-words_entry : (p : RecordPlace) (bytes : List ℕ) (first count : ℕ) (w : IsWordsAt p (Some bytes) first count) (h : Header) (es : List JournalEntry) (e : JournalEntry)
-    → IsNext p.at p.kind (payload_in p bytes) h es e → IsWordsEntry p first count h es e
-words_entry p bytes first count w h es e next =
+-- whatever it is, it spells texts
+abbrev pub HasTexts : Which → List ℕ → JournalEntry → Type 0
+HasTexts kind payload e = (first : ℕ) × ((texts : List (List ℕ)) × (e ≡ entry_of kind first texts) × (first < 2 ^ 32) × AreTexts texts × (payload ≡ texts_payload first texts))
+
+has_texts : (kind : Which) (p : RecordPlace) (bytes : List ℕ) (h : Header) (es : List JournalEntry) (e : JournalEntry) → p.kind ≡ kind_of kind → IsNext p.at p.kind (payload_in p bytes) h es e
+    → HasTexts kind (payload_in p bytes) e
+has_texts kind p bytes h es e is next =
     let payload : List ℕ = payload_in p bytes in
-    let three : IsNext p.at 3 payload h es e = subst (λ k. IsNext p.at k payload h es e) w.kind next in
-    let is = is_texts which.Words (types_of es) e payload (next_form p.at 3 payload h es e three) three.saved in
+    let own : IsNext p.at (number_of kind) payload h es e = subst (λ k. IsNext p.at k payload h es e) (is ∙ kind_number kind) next in
+    is_texts kind (types_of es) e payload (next_form p.at (number_of kind) payload h es e own) own.saved
+
+texts_entry : (kind : Which) (p : RecordPlace) (bytes : List ℕ) (first count : ℕ) (w : IsTextsAt kind p (Some bytes) first count) (h : Header) (es : List JournalEntry) (e : JournalEntry)
+    → IsNext p.at p.kind (payload_in p bytes) h es e → IsTextsEntry kind p first count h es e
+texts_entry kind p bytes first count w h es e next =
+    let payload : List ℕ = payload_in p bytes in
+    let is = has_texts kind p bytes h es e w.kind_is next in
     let texts : List (List ℕ) = is.1.0 in
     let front : take 8 payload ≡ four_bytes first ++ (four_bytes count ++ w.rest) = take-take 8 p.length (drop p.payload bytes) w.long ∙ sym w.these ∙ w.parts in
     let parts : four_bytes first ++ ((four_bytes count ++ w.rest) ++ drop 8 payload) ≡ texts_payload is.0 texts =
@@ -135,68 +144,83 @@ words_entry p bytes first count w h es e next =
     let two = same_number count (length texts) (w.rest ++ drop 8 payload) (flat_map text_bytes texts) w.count_fits is.1.3.count (sym (append_assoc (four_bytes count) w.rest (drop 8 payload)) ∙ one.1) in
     record {
       texts = texts;
-      entry = is.1.1 ∙ ap (λ n. Words n texts) (sym one.0);
+      entry = is.1.1 ∙ ap (λ n. entry_of kind n texts) (sym one.0);
       many = two.0;
       size = sym (payload_size p bytes w.whole) ∙ ap length (is.1.4 ∙ ap (λ n. texts_payload n texts) (sym one.0));
     }
 
-words_step : (p : RecordPlace) (bytes : List ℕ) (first count : ℕ) (w : IsWordsAt p (Some bytes) first count) (old : Placing) (h : Header) (es : List JournalEntry) (texts : List (List ℕ))
-    → IsLegal h (es ++ Words first texts ∷ []) → p.at ≡ length (front_of h es) → count ≡ length texts → p.length ≡ length (texts_payload first texts) → PlacesOf old h es
-    → PlacesOf (with_words (place_by p first count) old) h (es ++ Words first texts ∷ [])
-words_step p bytes first count w old h es texts legal gate many size placed more run =
+-- where the record was seen is the place of the entry's texts
+here_is : (kind : Which) (p : RecordPlace) (seen : Option (List ℕ)) (first count : ℕ) (w : IsTextsAt kind p seen first count) (h : Header) (es : List JournalEntry) (texts : List (List ℕ)) → p.at ≡ length (front_of h es)
+    → count ≡ length texts → p.length ≡ length (texts_payload first texts) → texts_place (length (front_of h es)) first texts ≡ place_by p first count
+here_is kind p seen first count w h es texts gate many size =
+    let at : p.payload ≡ length (front_of h es) + 10 = w.whole.payload ∙ ap (λ n. n + 10) gate in
+    λ i. record { payload = sym at i; length = sym size i; first = first; count = sym many i }
+
+texts_step : (kind : Which) (h : Header) (es : List JournalEntry) (first : ℕ) (texts : List (List ℕ)) (place : WordsPlace) (old : Placing) → IsLegal h (es ++ entry_of kind first texts ∷ [])
+    → texts_place (length (front_of h es)) first texts ≡ place → PlacesOf old h es → PlacesOf (with_texts kind place old) h (es ++ entry_of kind first texts ∷ [])
+texts_step which.Types h es first texts place old legal here placed more run =
+    let f = follows h es (Types first texts) more legal run in
+    let was : IsPlaced old h es f.held = placed f.held f.run in
+    record {
+      types = listing_more which.Types h es (Types first texts) _ place texts _ _ _ was.types (ap (λ (p : WordsPlace). p ∷ []) here) (ap (λ (p : WordsPlace). p.count) (sym here)) (ap (λ (x : Held). x.types) (sym f.takes.1));
+      words = listing_same which.Words h es (Types first texts) _ _ _ _ was.words refl (ap (λ (x : Held). x.words) (sym f.takes.1));
+      files = was.files ∙ ap files_of (sym f.takes.1);
+      segments = was.segments ∙ ap (map front_of_place) (sym (places_more h es (Types first texts) ∙ append-nil (places_of es)));
+    }
+texts_step which.Words h es first texts place old legal here placed more run =
     let f = follows h es (Words first texts) more legal run in
     let was : IsPlaced old h es f.held = placed f.held f.run in
-    let at : p.payload ≡ length (front_of h es) + 10 = w.whole.payload ∙ ap (λ n. n + 10) gate in
-    let here : place_by p first count ≡ record { payload = length (front_of h es) + 10; length = length (texts_payload first texts); first = first; count = length texts } =
-    λ i. record { payload = at i; length = size i; first = first; count = many i } in
     record {
-      types = was.types ∙ ap (λ (x : Held). x.types) (sym f.takes.1);
-      types_limit = was.types_limit;
-      words = (λ i. was.words i ++ here i ∷ []) ∙ sym (words_more h es (Words first texts));
-      words_count = omega (arith, was.words_count, many, ap (λ (x : Held). length x.words) f.takes.1, length-append f.held.words texts);
-      words_limit = was.words_limit;
+      types = listing_same which.Types h es (Words first texts) _ _ _ _ was.types refl (ap (λ (x : Held). x.types) (sym f.takes.1));
+      words = listing_more which.Words h es (Words first texts) _ place texts _ _ _ was.words (ap (λ (p : WordsPlace). p ∷ []) here) (ap (λ (p : WordsPlace). p.count) (sym here)) (ap (λ (x : Held). x.words) (sym f.takes.1));
       files = was.files ∙ ap files_of (sym f.takes.1);
       segments = was.segments ∙ ap (map front_of_place) (sym (places_more h es (Words first texts) ∙ append-nil (places_of es)));
     }
 
-pub words_placed : (p : RecordPlace) (seen : Option (List ℕ)) (first count : ℕ) (old : Placing) → IsWordsAt p seen first count
-    → KeepsTold p seen (PlacesOf old) (PlacesOf (with_words (place_by p first count) old))
-words_placed p None first count old w = tt
-words_placed p (Some bytes) first count old w = λ h es e next placed.
-    let is = words_entry p bytes first count w h es e next in
-    subst (λ f. PlacesOf (with_words (place_by p first count) old) h (es ++ f ∷ [])) (sym is.entry)
-    (words_step p bytes first count w old h es is.texts (subst (λ f. IsLegal h (es ++ f ∷ [])) is.entry next.legal) next.gate is.many is.size placed)
+pub texts_placed_told : (kind : Which) (p : RecordPlace) (seen : Option (List ℕ)) (first count : ℕ) (old : Placing) → IsTextsAt kind p seen first count
+    → KeepsTold p seen (PlacesOf old) (PlacesOf (with_texts kind (place_by p first count) old))
+texts_placed_told kind p None first count old w = tt
+texts_placed_told kind p (Some bytes) first count old w = λ h es e next placed.
+    let is = texts_entry kind p bytes first count w h es e next in
+    subst (λ f. PlacesOf (with_texts kind (place_by p first count) old) h (es ++ f ∷ [])) (sym is.entry)
+    (texts_step kind h es first is.texts (place_by p first count) old (subst (λ f. IsLegal h (es ++ f ∷ [])) is.entry next.legal) (here_is kind p (Some bytes) first count w h es is.texts next.gate is.many is.size) placed)
 
--- words that may not follow
-pub no_words : (p : RecordPlace) (seen : Option (List ℕ)) (first count : ℕ) (old : Placing) → IsWordsAt p seen first count
-    → (first ≡ old.words_count → old.words_limit < old.words_count + count) → NoneTold p seen (PlacesOf old)
-no_words p None first count old w none = tt
-no_words p (Some bytes) first count old w none = λ h es e next placed.
-    let is = words_entry p bytes first count w h es e next in
-    let f = own_follows h es (Words first is.texts) (subst (λ f. IsLegal h (es ++ f ∷ [])) is.entry next.legal) in
-    let was : IsPlaced old h es f.held = placed f.held f.run in
-    let may = may_follow which.Words h es first is.texts _ f in
-    let over = none (may.0 ∙ sym was.words_count) in
-    omega (arith, over, may.1.most, length-append f.held.words is.texts, is.many, was.words_count, was.words_limit)
+-- what was kept of a dictionary
+listing_was : (kind : Which) (p : Placing) (h : Header) (es : List JournalEntry) (held : Held) → IsPlaced p h es held → IsListing (listing kind p) (texts_from kind 32 [] es) (texts_of kind (kept_of h held)) (limit_of kind (kept_of h held))
+listing_was which.Types p h es held was = was.types
+listing_was which.Words p h es held was = was.words
 
--- a payload that is too short for words
-pub words_short : (p : RecordPlace) (seen : Option (List ℕ)) (old : Placing) → StandsWhole p seen → p.kind ≡ 3 → p.length < 8 → NoneTold p seen (PlacesOf old)
-words_short p None old whole kind short = tt
-words_short p (Some bytes) old whole kind short = λ h es e next placed.
-    let payload : List ℕ = payload_in p bytes in
-    let three : IsNext p.at 3 payload h es e = subst (λ k. IsNext p.at k payload h es e) kind next in
-    let is = is_texts which.Words (types_of es) e payload (next_form p.at 3 payload h es e three) three.saved in
-    no_front payload (omega (arith, short, payload_size p bytes whole)) is.0 is.1.0 is.1.4
+-- texts that may not follow
+pub no_texts_told : (kind : Which) (p : RecordPlace) (seen : Option (List ℕ)) (first count : ℕ) (old : Placing) → IsTextsAt kind p seen first count
+    → (first ≡ (listing kind old).count → IsOver (listing kind old) count) → NoneTold p seen (PlacesOf old)
+no_texts_told kind p None first count old w none = tt
+no_texts_told kind p (Some bytes) first count old w none = λ h es e next placed.
+    let is = texts_entry kind p bytes first count w h es e next in
+    let f = own_follows h es (entry_of kind first is.texts) (subst (λ f. IsLegal h (es ++ f ∷ [])) is.entry next.legal) in
+    let was = listing_was kind old h es f.held (placed f.held f.run) in
+    let may = may_follow kind h es first is.texts _ f in
+    let over = none (may.0 ∙ sym was.count) in
+    omega (arith, over, may.1.most, length-append (texts_of kind (kept_of h f.held)) is.texts, is.many, was.count, was.limit)
 
-pub eight_reads : (p : RecordPlace) (seen : Option (List ℕ)) (old new : DiskState) → StandsWhole p seen → p.kind ≡ 3 → 8 ≤ p.length → ReadsOnly p.payload 8 old new → ReadsOf p seen old.ranges new.ranges
-eight_reads p None old new whole kind long reads = tt
-eight_reads p (Some bytes) old new whole kind long reads = λ h es e next.
-    let payload : List ℕ = payload_in p bytes in
-    let three : IsNext p.at 3 payload h es e = subst (λ k. IsNext p.at k payload h es e) kind next in
-    let is = is_texts which.Words (types_of es) e payload (next_form p.at 3 payload h es e three) three.saved in
-    let size : p.length ≡ length (texts_payload is.0 is.1.0) = sym (payload_size p bytes whole) ∙ ap length is.1.4 in
-    subst (λ (n : ℕ). ReadsWithin p.payload n old.ranges new.ranges) (ap (λ (f : JournalEntry). shown_len (types_of es) f) (sym is.1.1))
-    (read_within p.payload 8 (length (texts_payload is.0 is.1.0)) old new (omega (arith, size, long)) reads)
+-- a payload that is too short for texts
+pub texts_short : (kind : Which) (p : RecordPlace) (seen : Option (List ℕ)) (old : Placing) → StandsWhole p seen → p.kind ≡ kind_of kind → p.length < 8 → NoneTold p seen (PlacesOf old)
+texts_short kind p None old whole is short = tt
+texts_short kind p (Some bytes) old whole is short = λ h es e next placed.
+    let has = has_texts kind p bytes h es e is next in
+    no_front (payload_in p bytes) (omega (arith, short, payload_size p bytes whole)) has.0 has.1.0 has.1.4
+
+-- of such an entry its payload may be read
+texts_shown : (kind : Which) (types : List (List ℕ)) (first : ℕ) (texts : List (List ℕ)) → shown_len types (entry_of kind first texts) ≡ length (texts_payload first texts)
+texts_shown which.Types types first texts = refl
+texts_shown which.Words types first texts = refl
+
+pub eight_reads : (kind : Which) (p : RecordPlace) (seen : Option (List ℕ)) (old new : DiskState) → StandsWhole p seen → p.kind ≡ kind_of kind → 8 ≤ p.length → ReadsOnly p.payload 8 old new → ReadsOf p seen old.ranges new.ranges
+eight_reads kind p None old new whole is long reads = tt
+eight_reads kind p (Some bytes) old new whole is long reads = λ h es e next.
+    let has = has_texts kind p bytes h es e is next in
+    let size : p.length ≡ length (texts_payload has.0 has.1.0) = sym (payload_size p bytes whole) ∙ ap length has.1.4 in
+    subst (λ (n : ℕ). ReadsWithin p.payload n old.ranges new.ranges) (sym (texts_shown kind (types_of es) has.0 has.1.0) ∙ ap (λ (f : JournalEntry). shown_len (types_of es) f) (sym has.1.1))
+    (read_within p.payload 8 (length (texts_payload has.0 has.1.0)) old new (omega (arith, size, long)) reads)
 
 -- ---- segments
 
@@ -267,11 +291,8 @@ segment_step p bytes f w old h es s legal gate size fixed placed more run =
       variables = (fixed i).variables;
     } in
     record {
-      types = was.types ∙ ap (λ (x : Held). x.types) (sym g.takes.2);
-      types_limit = was.types_limit;
-      words = was.words ∙ sym (words_more h es (Segment s) ∙ append-nil (words_places_of es));
-      words_count = was.words_count ∙ ap (λ (x : Held). length x.words) (sym g.takes.2);
-      words_limit = was.words_limit;
+      types = listing_same which.Types h es (Segment s) _ _ _ _ was.types refl (ap (λ (x : Held). x.types) (sym g.takes.2));
+      words = listing_same which.Words h es (Segment s) _ _ _ _ was.words refl (ap (λ (x : Held). x.words) (sym g.takes.2));
       files = (λ i. set (was.files i) (here i).file (file_by (get_or (was.files i) (here i).file no_file) (here i))) ∙ sym (files_more h es s more g);
       segments = (λ i. was.segments i ++ here i ∷ []) ∙ sym (map-append front_of_place (places_of es) (place ∷ [])) ∙ ap (map front_of_place) (sym (places_more h es (Segment s)));
     }

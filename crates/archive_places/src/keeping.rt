@@ -1,84 +1,58 @@
 //! What an opening by places keeps of the records.
-ghost use Rattle.std.specs.Prelude.{◌≡◌, ◌≢◌, ◌<◌, ◌⊎◌, ◌+◌, ℕ, IfOk, IsTrue, IsFalse, IsErrOf, IsNone};
+ghost use Rattle.std.specs.Prelude.{◌≡◌, ℕ, IfOk, IsTrue, IsFalse, IsErrOf, IsNone};
 ghost use Rattle.log_seams.specs.Outside.{CountsOf};
 ghost use Rattle.disk_journal.specs.Calls.{StaysAt};
 ghost use Rattle.disk_journal.specs.Journal.{state_of};
 ghost use Rattle.archive_open.specs.Shown.{Looks};
-ghost use Rattle.archive_open.specs.Walk.{KeepsNext, KeepsTold, NoneNext, NoneTold, ReadsOf, StandsWhole};
-ghost use Rattle.archive_places.specs.StepsPlaced.{IsInRun, PlacesOf, place_by, placing_of, with_words};
+ghost use Rattle.archive_open.specs.Walk.{KeepsTold, NoneTold, ReadsOf, StandsWhole};
+ghost use Rattle.archive_places.specs.StepsPlaced.{AreInRun, IsOver, PlacesOf, kind_of, listing, place_by, placing_of, with_texts};
 
 use crate::front::{FIXED_LEN, read_front};
 use crate::opening::Opening;
 use crate::segments::add_segment;
-use crate::types::keep_types;
 use archive_open::{ArchiveRefusal, KeepsRecords, add_names};
 use disk_journal::{Journal, RecordPlace};
 use log_seams::Disk;
 use record_format::{FILES_KIND, SEGMENT_KIND, TYPES_KIND, WORDS_KIND, texts_front};
+use row_codec::Which;
 use std::alloc::{AllocError, Global};
-use word_places::WordsPlace;
 
-/// How many bytes stand before the texts of a record of words.
+/// How many bytes stand before the texts of a record of log types or of words.
 const TEXTS_FRONT: u64 = 8;
 
-// Keeps what a record of names or of log types has, and tells whether it may follow.
-fn keep_listed(
-    alloc: Global,
+// Adds the place of log types or of words, where they go on with the numbers and there is room for them.
+fn add_texts(
     opening: &mut Opening,
-    kind: u8,
-    payload: &[u8],
-) -> Result<bool, AllocError>
-    requires segment { kind ≢ SEGMENT_KIND }
-    requires words { kind ≢ WORDS_KIND }
-    ensures kept { IfOk result (λ yes. IsTrue yes → (at : ℕ) → KeepsNext at kind payload.now
-        (PlacesOf (placing_of opening.old)) (PlacesOf (placing_of opening.new))) }
-    ensures sound { IfOk result (λ yes. IsTrue yes → IsInRun opening.old → IsInRun opening.new) }
-    ensures refused { IfOk result (λ yes. IsFalse yes → (at : ℕ)
-        → NoneNext at kind payload.now (PlacesOf (placing_of opening.old))) }
-{
-    match kind {
-        FILES_KIND => add_names(alloc, &mut opening.files, payload),
-        TYPES_KIND => keep_types(&mut opening.types, opening.types_limit, payload),
-        _ => Ok(false),
-    }
-}
-
-// Adds the place of words that go on with the numbers, where there is room for them.
-fn add_words(
-    opening: &mut Opening,
+    kind: Which,
     place: RecordPlace,
     first: u32,
     count: u32,
 ) -> Result<bool, AllocError>
     ensures added { IfOk result (λ yes. IsTrue yes → placing_of opening.new
-        ≡ with_words (place_by place first count) (placing_of opening.old)) }
-    ensures sound { IfOk result (λ yes. IsTrue yes → IsInRun opening.old → IsInRun opening.new) }
-    ensures refused { IfOk result (λ yes. IsFalse yes → first ≡ opening.old.words_count
-        → opening.old.words_limit < opening.old.words_count + count) }
+        ≡ with_texts kind (place_by place first count) (placing_of opening.old)) }
+    ensures sound { IfOk result (λ yes. IsTrue yes
+        → AreInRun (placing_of opening.old) → AreInRun (placing_of opening.new)) }
+    ensures refused { IfOk result (λ yes. IsFalse yes
+        → first ≡ (listing kind (placing_of opening.old)).count
+        → IsOver (listing kind (placing_of opening.old)) count) }
 {
-    if first != opening.words_count || count > opening.words_limit - opening.words_count {
-        return Ok(false);
+    match kind {
+        Which::Types => opening.types.add(place, first, count),
+        Which::Words => opening.words.add(place, first, count),
     }
-    opening.words.push(WordsPlace {
-        payload: place.payload,
-        length: place.length,
-        first,
-        count,
-    })?;
-    opening.words_count += count;
-    Ok(true)
 }
 
-// Keeps where a record of words stands, of which the first eight bytes alone are loaded, and tells
-// whether it may follow.
-fn keep_words<D: Disk>(
+// Keeps where a record of log types or of words stands, of which the first eight bytes alone are loaded,
+// and tells whether it may follow.
+fn keep_texts<D: Disk>(
     alloc: Global,
     journal: &mut Journal<'_, D>,
     opening: &mut Opening,
+    kind: Which,
     place: RecordPlace,
 ) -> Result<bool, ArchiveRefusal>
     requires whole { StandsWhole place (D.state journal.old.disk.now).seen }
-    requires kind { place.kind ≡ WORDS_KIND }
+    requires kind { place.kind ≡ kind_of kind }
 
     // what stays
     ensures looks { Looks (state_of journal.old) (state_of journal.new) }
@@ -90,7 +64,8 @@ fn keep_words<D: Disk>(
     ensures kept { IfOk result (λ yes. IsTrue yes
         → KeepsTold place (D.state journal.old.disk.now).seen
         (PlacesOf (placing_of opening.old)) (PlacesOf (placing_of opening.new))) }
-    ensures sound { IfOk result (λ yes. IsTrue yes → IsInRun opening.old → IsInRun opening.new) }
+    ensures sound { IfOk result (λ yes. IsTrue yes
+        → AreInRun (placing_of opening.old) → AreInRun (placing_of opening.new)) }
     ensures refused { IfOk result (λ yes. IsFalse yes
         → NoneTold place (D.state journal.old.disk.now).seen
         (PlacesOf (placing_of opening.old))) }
@@ -108,7 +83,7 @@ fn keep_words<D: Disk>(
     let Some(front) = texts_front(bytes.as_slice()) else {
         unreachable!();
     };
-    Ok(add_words(opening, place, front.first, front.count)?)
+    Ok(add_texts(opening, kind, place, front.first, front.count)?)
 }
 
 // Keeps a segment, of whose head the fixed part alone is loaded, and tells whether it may follow.
@@ -131,7 +106,8 @@ fn keep_segment<D: Disk>(
     ensures kept { IfOk result (λ yes. IsTrue yes
         → KeepsTold place (D.state journal.old.disk.now).seen
         (PlacesOf (placing_of opening.old)) (PlacesOf (placing_of opening.new))) }
-    ensures sound { IfOk result (λ yes. IsTrue yes → IsInRun opening.old → IsInRun opening.new) }
+    ensures sound { IfOk result (λ yes. IsTrue yes
+        → AreInRun (placing_of opening.old) → AreInRun (placing_of opening.new)) }
     ensures refused { IfOk result (λ yes. IsFalse yes
         → NoneTold place (D.state journal.old.disk.now).seen
         (PlacesOf (placing_of opening.old))) }
@@ -155,24 +131,15 @@ fn keep_segment<D: Disk>(
     Ok(add_segment(&mut opening.files, &mut opening.segments, front)?)
 }
 
-// Whether a record of this kind has names or log types.
-fn is_listed(kind: u8) -> bool
-    ensures { IsFalse result → kind ≢ SEGMENT_KIND → kind ≢ WORDS_KIND
-        → (kind < FILES_KIND) ⊎ (SEGMENT_KIND < kind) }
-{
-    kind == FILES_KIND || kind == TYPES_KIND
-}
-
-// Keeps what a record of names or of log types has, which is loaded, and tells whether it may follow.
-fn keep_loaded<D: Disk>(
+// Keeps the names that a record has, which is loaded, and tells whether it may follow.
+fn keep_names<D: Disk>(
     alloc: Global,
     journal: &mut Journal<'_, D>,
     opening: &mut Opening,
     place: RecordPlace,
 ) -> Result<bool, ArchiveRefusal>
     requires whole { StandsWhole place (D.state journal.old.disk.now).seen }
-    requires segment { place.kind ≢ SEGMENT_KIND }
-    requires words { place.kind ≢ WORDS_KIND }
+    requires kind { place.kind ≡ FILES_KIND }
 
     // what stays
     ensures looks { Looks (state_of journal.old) (state_of journal.new) }
@@ -184,7 +151,8 @@ fn keep_loaded<D: Disk>(
     ensures kept { IfOk result (λ yes. IsTrue yes
         → KeepsTold place (D.state journal.old.disk.now).seen
         (PlacesOf (placing_of opening.old)) (PlacesOf (placing_of opening.new))) }
-    ensures sound { IfOk result (λ yes. IsTrue yes → IsInRun opening.old → IsInRun opening.new) }
+    ensures sound { IfOk result (λ yes. IsTrue yes
+        → AreInRun (placing_of opening.old) → AreInRun (placing_of opening.new)) }
     ensures refused { IfOk result (λ yes. IsFalse yes
         → NoneTold place (D.state journal.old.disk.now).seen
         (PlacesOf (placing_of opening.old))) }
@@ -195,17 +163,14 @@ fn keep_loaded<D: Disk>(
     ensures counts { CountsOf ArchiveRefusal.DiskFault
         (D.state journal.old.disk.now).faults (D.state journal.new.disk.now).faults result }
 {
-    if !is_listed(place.kind) {
-        return Ok(false);
-    }
     let payload = journal.load(alloc, place.payload, place.length)?;
-    Ok(keep_listed(alloc, opening, place.kind, payload.as_slice())?)
+    Ok(add_names(alloc, &mut opening.files, payload.as_slice())?)
 }
 
 impl KeepsRecords for Opening {
     ghost kept = { λ o. PlacesOf (placing_of o) };
 
-    ghost sound = { λ o. IsInRun o };
+    ghost sound = { λ o. AreInRun (placing_of o) };
 
     fn keep<D: Disk>(
         &mut self,
@@ -214,9 +179,11 @@ impl KeepsRecords for Opening {
         place: RecordPlace,
     ) -> Result<bool, ArchiveRefusal> {
         match place.kind {
+            FILES_KIND => keep_names(alloc, journal, self, place),
+            TYPES_KIND => keep_texts(alloc, journal, self, Which::Types, place),
+            WORDS_KIND => keep_texts(alloc, journal, self, Which::Words, place),
             SEGMENT_KIND => keep_segment(alloc, journal, self, place),
-            WORDS_KIND => keep_words(alloc, journal, self, place),
-            _ => keep_loaded(alloc, journal, self, place),
+            _ => Ok(false),
         }
     }
 }

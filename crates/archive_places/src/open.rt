@@ -5,15 +5,14 @@ ghost use Rattle.log_seams.specs.Outside.{CountsOf};
 ghost use Rattle.disk_journal.specs.Journal.{state_of};
 ghost use Rattle.disk_journal.specs.State.{BeginsWith, IsAtFirst};
 ghost use Rattle.archive_open.specs.Shown.{Looks, RefusedAt, Spares};
-ghost use Rattle.word_places.specs.Places.{AreInOrder};
-ghost use Rattle.archive_places.specs.Opened.{EndsAtGate, OpensPlaces};
+ghost use Rattle.archive_places.specs.Opened.{ArePlacesOrdered, EndsAtGate, OpensPlaces};
 
 use crate::front::FrontList;
 use crate::opening::Opening;
 use crate::places::{PlaceList, Places};
 use crate::segments::sort;
+use crate::texts::TextPlaces;
 use archive_open::{ArchiveRefusal, FileList, keep_all};
-use dict_core::Texts;
 use disk_journal::{Journal, start};
 use log_seams::Disk;
 use std::alloc::Global;
@@ -34,7 +33,7 @@ fn open_journal<D: Disk>(
     // by the answer, and causes
     ensures opened { IfOk result (λ places.
         OpensPlaces (D.state journal.old.disk.now).seen places) }
-    ensures order { IfOk result (λ places. AreInOrder 0 places.words) }
+    ensures order { IfOk result ArePlacesOrdered }
     ensures last { IfOk result (λ places.
         EndsAtGate (D.state journal.old.disk.now).seen places) }
     ensures damaged { (at : ℕ) → IsErrOf result (ArchiveRefusal.Damaged at)
@@ -44,11 +43,8 @@ fn open_journal<D: Disk>(
 {
     let header = *journal.header();
     let mut opening = Opening {
-        types: Texts::new(alloc),
-        types_limit: header.types_limit,
-        words: Vec::new(alloc),
-        words_count: 0,
-        words_limit: header.words_limit,
+        types: TextPlaces::new(alloc, header.types_limit),
+        words: TextPlaces::new(alloc, header.words_limit),
         files: Vec::new(alloc),
         segments: Vec::new(alloc),
     };
@@ -56,8 +52,9 @@ fn open_journal<D: Disk>(
     sort(&mut opening.segments);
     Ok(Places {
         header,
-        types: opening.types,
-        words: PlaceList::new(opening.words),
+        types: PlaceList::new(opening.types.places),
+        types_count: opening.types.count,
+        words: PlaceList::new(opening.words.places),
         files: FileList::new(opening.files),
         segments: FrontList::new(opening.segments),
         entries: journal.count(),
@@ -67,7 +64,8 @@ fn open_journal<D: Disk>(
 
 /// Opens the archive of a disk by places. Where its bytes stand for an archive, what is found is that
 /// archive's; where they stand for none, the answer may be `Damaged`, with a gate that is not before the
-/// first damage. Of a record of words 8 bytes are read, of a segment 45, and no more of them is noticed.
+/// first damage. Of a record of log types or of words 8 bytes are read, of a segment 45, and no more of
+/// them is noticed: damage in a text is found when the texts are read.
 ///
 /// # Errors
 ///
@@ -80,7 +78,7 @@ pub fn open_places<D: Disk>(alloc: Global, disk: &mut D) -> Result<Places, Archi
 
     // by the answer, and causes
     ensures opened { IfOk result (λ places. OpensPlaces (D.state disk.old).seen places) }
-    ensures order { IfOk result (λ places. AreInOrder 0 places.words) }
+    ensures order { IfOk result ArePlacesOrdered }
     ensures last { IfOk result (λ places. EndsAtGate (D.state disk.old).seen places) }
     ensures damaged { (at : ℕ) → IsErrOf result (ArchiveRefusal.Damaged at)
         → RefusedAt at (D.state disk.old).seen }

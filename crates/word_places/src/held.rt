@@ -25,7 +25,7 @@ const MICRO_VERSION: u32 = 3;
 
 /// Of how many log types the slots are kept beside their texts: the first ones, which most rows have, since
 /// a log type gets its number where its text is first met. Free to tune: of others the text is read.
-const SLOT_TYPES: u32 = 1024;
+const SLOT_TYPES: u16 = 1024;
 
 /// A record of words: where it stands, and its words, once they are read.
 #[derive(Drop)]

@@ -44,12 +44,12 @@ fn push_slots(text: &[u8], slots: &mut Vec<u8>) -> Result<(), AllocError>
 
 /// Of each of the first log types, so many at most, the bytes that stand for its slots: what tells which
 /// numbers of a row are words, in a few bytes for each.
-pub(crate) fn slots_of(alloc: Global, types: &TypeTexts, most: u32) -> Result<Texts, AllocError>
+pub(crate) fn slots_of(alloc: Global, types: &TypeTexts, most: u16) -> Result<Texts, AllocError>
     ensures { IfOk result (λ slots. HaveSlots types.now slots) }
 {
     let mut all = Texts::new(alloc);
     let mut slots = Vec::new(alloc);
-    for number in 0..most {
+    for number in 0..u32::from(most) {
         let Some(text) = types.text_of(number) else {
             return Ok(all);
         };
