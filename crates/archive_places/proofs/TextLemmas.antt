@@ -20,7 +20,7 @@ use Rattle.segment_pages.proofs.StandLemmas.{form_at, payload_stands}
 use Rattle.archive_open.proofs.NextLemmas.{front_length}
 use Rattle.word_places.specs.declared.place.WordsPlace.{WordsPlace}
 use Rattle.word_places.specs.Places.{AreInOrder, AreWords, Spells, payload_in}
-use Rattle.archive_places.specs.Words.{texts_from, texts_place, texts_placed, types_places_of, words_places_of}
+use Rattle.archive_places.specs.Words.{texts_from, texts_place, texts_placed}
 use Rattle.archive_places.specs.Laws.{TypesStand, WordsStand}
 use Rattle.archive_places.specs.StepsPlaced.{RunOn}
 

@@ -1,7 +1,8 @@
-//! An archive with two records of words, as bytes.
+//! An archive with a record of log types and two of words, as bytes.
 use log_seams::MemDisk;
 use plain_list::Text;
 use std::alloc::{AllocError, Global};
+use word_places::WordsPlace;
 
 /// How many bytes it has.
 pub(crate) const LEN: usize = 360;
@@ -43,6 +44,30 @@ pub(crate) static ARCHIVE: [u8; LEN] = [
     0x01, 0x00, 0x00, 0x00, 0x00, 0x00, 0x00, 0x00,
     // At 359: the closed gate.
     0x00,
+];
+
+/// Where its log type stands.
+pub(crate) const TYPES: &[WordsPlace] = &[WordsPlace {
+    payload: 65,
+    length: 16,
+    first: 0,
+    count: 1,
+}];
+
+/// Where its words stand.
+pub(crate) const WORDS: &[WordsPlace] = &[
+    WordsPlace {
+        payload: 91,
+        length: 29,
+        first: 0,
+        count: 3,
+    },
+    WordsPlace {
+        payload: 247,
+        length: 24,
+        first: 3,
+        count: 2,
+    },
 ];
 
 /// A disk with these bytes, of which these calls fail.

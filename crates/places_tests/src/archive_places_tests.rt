@@ -1,12 +1,14 @@
 //! An archive that is opened by places, cut and changed, and over a disk that fails.
 
-use crate::archive::{ARCHIVE, changed, disk};
+use crate::archive::{ARCHIVE, TYPES, WORDS, changed, disk};
 use archive_open::{Archive, ArchiveRefusal, PlainBooks, SegmentPlace, open_archive};
-use archive_places::{Places, SegmentFront, heads_stand, load_segment, open_places, words_stand};
+use archive_places::{
+    Places, SegmentFront, heads_stand, load_segment, open_places, types_stand, words_stand,
+};
 use segment_pages::PageRefusal;
 use std::alloc::{AllocError, Global};
 use std::test::Fail;
-use word_places::WordsPlace;
+use word_places::{HoldRefusal, TypeTexts};
 
 // Opens an archive of these bytes by places.
 fn open(alloc: Global, bytes: &[u8]) -> Result<Places, ArchiveRefusal> {
@@ -20,22 +22,6 @@ fn open_whole(alloc: Global, bytes: &[u8]) -> Result<Archive<PlainBooks>, Archiv
     open_archive(alloc, &mut disk)
 }
 
-// Where the words stand.
-const WORDS: &[WordsPlace] = &[
-    WordsPlace {
-        payload: 91,
-        length: 29,
-        first: 0,
-        count: 3,
-    },
-    WordsPlace {
-        payload: 247,
-        length: 24,
-        first: 3,
-        count: 2,
-    },
-];
-
 fn has_words(places: &Places) -> bool {
     places.words.as_slice() == WORDS
 }
@@ -48,7 +34,7 @@ fn has_file(places: &Places) -> bool {
 }
 
 fn has_type(places: &Places) -> bool {
-    places.types.len() == 1 && places.types.text_of(0) == Some(b"of \x12".as_slice())
+    places.types.as_slice() == TYPES && places.types_count == 1
 }
 
 fn has_all(places: &Places) -> bool {
@@ -216,13 +202,16 @@ fn damage(alloc: Global, bytes: &[u8]) -> Result<Option<u64>, ArchiveRefusal> {
     }
 }
 
-// A place, the byte that comes there, and where opening tells damage. What stands in a list or in a
-// record behind the count of its words is not read.
+// A place, the byte that comes there, and where opening tells damage. What stands in a list, or in a
+// record of log types or of words behind its count, is not read.
 const CHANGES: &[(usize, u8, Option<u64>)] = &[
     (0, 0x44, Some(0)),
     (33, 0x09, Some(32)),
     (42, 0x02, Some(32)),
     (65, 0x01, Some(55)),
+    (69, 0x02, None),
+    (73, 0x05, None),
+    (77, 0x62, None),
     (91, 0x01, Some(81)),
     (95, 0x04, Some(237)),
     (99, 0x09, None),
@@ -251,6 +240,42 @@ fn changed_bytes_are_damaged_where_opening_reads_them(rt: HostRuntime) -> Result
     Ok(())
 }
 
+// Why the log types of these bytes, where these are opened by places, are not read.
+fn types_refusal(alloc: Global, bytes: &[u8]) -> Result<Option<HoldRefusal>, ArchiveRefusal> {
+    let mut disk = disk(alloc, bytes, &[])?;
+    let places = open_places(alloc, &mut disk)?;
+    Ok(TypeTexts::read(alloc, &mut disk, places.types.as_slice()).err())
+}
+
+// A place in the record of log types that opening does not read, and the byte that comes there: the count,
+// the length of its text, and the text.
+const TYPE_CHANGES: &[(usize, u8, Option<HoldRefusal>)] = &[
+    (69, 0x02, Some(HoldRefusal::Damaged)),
+    (73, 0x05, Some(HoldRefusal::Damaged)),
+    (73, 0x03, Some(HoldRefusal::Damaged)),
+    (77, 0x62, None),
+];
+
+// The same of the archive's bytes with another one at a place.
+fn types_refusal_by(
+    alloc: Global,
+    at: usize,
+    byte: u8,
+) -> Result<Option<HoldRefusal>, ArchiveRefusal> {
+    let bytes = changed(alloc, at, byte)?;
+    types_refusal(alloc, bytes.as_slice())
+}
+
+#[test]
+fn damage_of_log_types_is_found_where_they_are_read(rt: HostRuntime) -> Result<(), Fail> {
+    for &(at, byte, told) in TYPE_CHANGES {
+        if types_refusal_by(rt.alloc(), at, byte) != Ok(told) {
+            return Err(Fail::new(at));
+        }
+    }
+    Ok(())
+}
+
 // How many calls of the disk it takes to open the archive.
 const CALLS: u64 = 22;
 
@@ -273,6 +298,7 @@ fn each_call_of_opening_may_fail(rt: HostRuntime) -> Result<(), Fail> {
 
 #[test]
 fn laws_hold() {
+    types_stand();
     words_stand();
     heads_stand();
 }

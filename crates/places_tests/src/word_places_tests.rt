@@ -2,34 +2,18 @@
 ghost use Rattle.std.specs.Prelude.{◌≡◌};
 ghost use Rattle.word_places.specs.Held.{places_of};
 
-use crate::archive::{ARCHIVE, changed, disk};
+use crate::archive::{ARCHIVE, WORDS, changed, disk};
+use crate::log_types::{MANY, log_types};
 use column_store::RowRef;
-use dict_core::Texts;
 use log_seams::MemDisk;
 use plain_list::NumberList;
 use row_codec::Names;
 use std::alloc::{AllocError, Global};
 use std::test::Fail;
 use word_places::{
-    Fit, HeldWords, HoldRefusal, Needle, WordsPlace, find_words, held_agree, held_stay,
-    holders_have, rows_are_local, word_found,
+    Fit, HeldWords, HoldRefusal, Needle, find_words, held_agree, held_stay, holders_have,
+    rows_are_local, word_found,
 };
-
-// Where the words stand.
-const WORDS: &[WordsPlace] = &[
-    WordsPlace {
-        payload: 91,
-        length: 29,
-        first: 0,
-        count: 3,
-    },
-    WordsPlace {
-        payload: 247,
-        length: 24,
-        first: 3,
-        count: 2,
-    },
-];
 
 // ---- the pass
 
@@ -175,40 +159,14 @@ fn a_record_that_breaks_off_is_damaged(rt: HostRuntime) {
 
 // ---- words that are held
 
-// A log type with a word.
-const WITH_WORD: &[u8] = b"of \x12";
-
-// One with a number before its word, where a byte that is escaped is no slot.
-const WITH_NUMBER: &[u8] = b"\\\x12 \x11 of \x12";
-
 // Words of which none is held, beside two log types.
-fn held(alloc: Global) -> Result<HeldWords, AllocError> {
-    let mut types = Texts::new(alloc);
-    types.push(WITH_WORD)?;
-    types.push(WITH_NUMBER)?;
-    HeldWords::new(alloc, types, 1, WORDS)
-}
-
-// How many log types stand before the last two of many, which are more than have their slots kept.
-const MANY: u32 = 1100;
-
-// Adds a text to some thousand at most.
-fn add(types: &mut Texts, text: &[u8]) -> Result<(), AllocError> {
-    if types.len() < 2 * MANY {
-        return types.push(text);
-    }
-    Ok(())
+fn held(alloc: Global) -> Result<HeldWords, HoldRefusal> {
+    Ok(HeldWords::new(alloc, log_types(alloc, 0)?, 1, WORDS)?)
 }
 
 // The same words, beside many log types.
-fn held_of_many(alloc: Global) -> Result<HeldWords, AllocError> {
-    let mut types = Texts::new(alloc);
-    for _ in 0..MANY {
-        add(&mut types, b"\x11 \x11")?;
-    }
-    add(&mut types, WITH_WORD)?;
-    add(&mut types, WITH_NUMBER)?;
-    HeldWords::new(alloc, types, 1, WORDS)
+fn held_of_many(alloc: Global) -> Result<HeldWords, HoldRefusal> {
+    Ok(HeldWords::new(alloc, log_types(alloc, MANY)?, 1, WORDS)?)
 }
 
 // Whether the words are these.
@@ -335,14 +293,14 @@ fn nor_where_no_slots_are_kept(rt: HostRuntime) {
 }
 
 // Why the word 3 is not held from these bytes.
-fn unheld(alloc: Global, bytes: &[u8], fails: &[u64]) -> Result<Option<HoldRefusal>, AllocError> {
+fn unheld(alloc: Global, bytes: &[u8], fails: &[u64]) -> Result<Option<HoldRefusal>, HoldRefusal> {
     let mut disk = disk(alloc, bytes, fails)?;
     let mut held = held(alloc)?;
     Ok(held.hold(&mut disk, 3).err())
 }
 
 // The same of the archive's bytes with another one at a place.
-fn unheld_by(alloc: Global, at: usize, byte: u8) -> Result<Option<HoldRefusal>, AllocError> {
+fn unheld_by(alloc: Global, at: usize, byte: u8) -> Result<Option<HoldRefusal>, HoldRefusal> {
     let bytes = changed(alloc, at, byte)?;
     unheld(alloc, bytes.as_slice(), &[])
 }
@@ -350,7 +308,7 @@ fn unheld_by(alloc: Global, at: usize, byte: u8) -> Result<Option<HoldRefusal>, 
 #[test]
 fn what_is_not_there_is_not_held(rt: HostRuntime) -> Result<(), Fail> {
     for &(at, byte) in CHANGES {
-        if unheld_by(rt.alloc(), at, byte)? != Some(HoldRefusal::Damaged) {
+        if unheld_by(rt.alloc(), at, byte) != Ok(Some(HoldRefusal::Damaged)) {
             return Err(Fail::new(at));
         }
     }

@@ -3,7 +3,7 @@ use Rattle.std.proofs.lemmas.Result.{err_from_is_err_and}
 use Rattle.log_seams.proofs.MomentLemmas.{rests_on}
 use Rattle.word_places.proofs.HeldLemmas.{contained, none_at}
 use Rattle.word_places.proofs.ReadLemmas.{other_disk, words_on, words_one}
-use Rattle.word_places.proofs.TypeLemmas.{lends_all, numbered_all, whole_more, whole_none}
+use Rattle.word_places.proofs.TypeLemmas.{lends_all, numbered_all, whole_more}
 use Rattle.word_places.proofs.types.read_each.Goals as goal
 
 pub returns-in_err-words-clause-reads : goal.returns-in_err-words-clause-reads
