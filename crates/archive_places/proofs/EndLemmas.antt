@@ -9,13 +9,14 @@ use Rattle.disk_journal.specs.State.{JournalState}
 use Rattle.archive_open.specs.declared.segments.SegmentPlace.{SegmentPlace}
 use Rattle.archive_open.specs.Shown.{IsLastGate, Looks, order_of, places_of}
 use Rattle.archive_open.specs.Walk.{AreWhole, EndsWith, Keeping, LastGateTold}
+use Rattle.word_places.specs.declared.place.WordsPlace.{WordsPlace}
 use Rattle.word_places.specs.Places.{AreInOrder}
 use Rattle.archive_places.specs.declared.front.SegmentFront.{SegmentFront}
 use Rattle.archive_places.specs.declared.places.Places.{Places}
 use Rattle.archive_places.specs.declared.opening.Opening.{Opening}
 use Rattle.archive_places.specs.Fronts.{front_of_place, order_of_front}
-use Rattle.archive_places.specs.Opened.{ArePlacesOrdered, EndsAtGate, OpensPlaces}
-use Rattle.archive_places.specs.StepsPlaced.{AreInRun, IsInRun, IsListing, IsPlaced, Listing, Placing, PlacesOf, no_listing, placing_of}
+use Rattle.archive_places.specs.Opened.{EndsAtGate, OpensPlaces}
+use Rattle.archive_places.specs.StepsPlaced.{IsInRun, IsListing, IsPlaced, Listing, Placing, PlacesOf, no_listing, placing_of}
 use Rattle.archive_places.proofs.TextLemmas.{run_in_order}
 
 -- ---- segments in order
@@ -63,7 +64,7 @@ has_order places fronts same sorted =
 -- ---- the beginning
 
 none_listed : (l : Listing) (limit : ℕ) → l ≡ no_listing limit → IsListing l [] [] limit
-none_listed l limit none = subst (λ (x : Listing). IsListing x [] [] limit) (sym none) (record { places = refl; count = refl; limit = refl })
+none_listed l limit none = subst (λ (x : Listing). IsListing x [] [] limit) (sym none) (record { stand = refl; many = refl; most = refl })
 
 pub none_placed : (p : Placing) (h : Header) → p.types ≡ no_listing h.types_limit → p.words ≡ no_listing h.words_limit → p.files ≡ [] → p.segments ≡ [] → PlacesOf p h []
 none_placed p h types words files segments held run =
@@ -74,8 +75,8 @@ none_placed p h types words files segments held run =
       segments = segments;
     })
 
-pub none_in_run : (p : Placing) (types words : ℕ) → p.types ≡ no_listing types → p.words ≡ no_listing words → AreInRun p
-none_in_run p types words no_types no_words = (subst IsInRun (sym no_types) refl, subst IsInRun (sym no_words) refl)
+pub none_in_run : (l : Listing) (limit : ℕ) → l ≡ no_listing limit → IsInRun l
+none_in_run l limit none = subst IsInRun (sym none) refl
 
 -- ---- the end
 
@@ -100,9 +101,9 @@ opens_told (Some bytes) o header place count a whole is = λ h es stood.
     let order = has_order (places_of es) a.segments (subst (λ (l : List SegmentFront). IsPermutation l a.segments) placed.segments is.same) is.sorted in
     record {
       header = is.header ∙ sym w.one;
-      types = is.types ∙ placed.types.places;
-      types_count = is.types_count ∙ placed.types.count;
-      words = is.words ∙ placed.words.places;
+      types = is.types ∙ placed.types.stand;
+      types_count = is.types_count ∙ placed.types.many;
+      words = is.words ∙ placed.words.stand;
       files = is.files ∙ placed.files;
       ordered = order.ordered;
       are = order.are;
@@ -117,12 +118,9 @@ opens o old new a looks ends is =
     opens_told old.disk.seen o new.header new.place new.count a (subst (λ s. AreWhole (PlacesOf (placing_of o)) new.header new.place new.count s) looks.rests.seen ends.whole)
     (subst (λ (h : Header). IsFound a o h new.place new.count) (sym looks.header) is)
 
--- the places of both kinds go on with their numbers
-pub in_order : (o : Opening) (a : Places) → a.types ≡ o.types.places.items → a.words ≡ o.words.places.items → AreInRun (placing_of o) → o.types.count ≤ 2 ^ 32 → o.words.count ≤ 2 ^ 32 → ArePlacesOrdered a
-in_order o a types words run few_types few_words = (
-  subst (AreInOrder 0) (sym types) (run_in_order 0 o.types.places.items o.types.count run.0 few_types),
-  subst (AreInOrder 0) (sym words) (run_in_order 0 o.words.places.items o.words.count run.1 few_words),
-)
+-- places that go on with their numbers
+pub in_order : (l : Listing) (places : List WordsPlace) → places ≡ l.places → IsInRun l → l.count ≤ l.limit → l.limit < 2 ^ 32 → AreInOrder 0 places
+in_order l places same run within few = subst (AreInOrder 0) (sym same) (run_in_order 0 l.places l.count run (omega (arith, within, few)))
 
 last_gate_told : (seen : Option (List ℕ)) (place : ℕ) (a : Places) → LastGateTold place seen → a.end ≡ place + 1 → EndsAtGate seen a
 last_gate_told None place a last end = tt

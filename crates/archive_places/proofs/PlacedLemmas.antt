@@ -44,18 +44,18 @@ use Rattle.archive_places.proofs.TextLemmas.{texts_more, texts_same}
 listing_same : (kind : Which) (h : Header) (es : List JournalEntry) (e : JournalEntry) (l : Listing) (old new : List (List ℕ)) (limit : ℕ) → IsListing l (texts_from kind 32 [] es) old limit
     → texts_placed kind (length (front_of h es)) e ≡ [] → old ≡ new → IsListing l (texts_from kind 32 [] (es ++ e ∷ [])) new limit
 listing_same kind h es e l old new limit was none same = record {
-  places = was.places ∙ sym (texts_same kind h es e none);
-  count = was.count ∙ ap length same;
-  limit = was.limit;
+  stand = was.stand ∙ sym (texts_same kind h es e none);
+  many = was.many ∙ ap length same;
+  most = was.most;
 }
 
 -- one is
 listing_more : (kind : Which) (h : Header) (es : List JournalEntry) (e : JournalEntry) (l : Listing) (place : WordsPlace) (texts old new : List (List ℕ)) (limit : ℕ) → IsListing l (texts_from kind 32 [] es) old limit
     → texts_placed kind (length (front_of h es)) e ≡ place ∷ [] → place.count ≡ length texts → old ++ texts ≡ new → IsListing (with_place place l) (texts_from kind 32 [] (es ++ e ∷ [])) new limit
 listing_more kind h es e l place texts old new limit was one many same = record {
-  places = (λ i. was.places i ++ sym one i) ∙ sym (texts_more kind h es e);
-  count = omega (arith, was.count, many, length-append old texts, ap length same);
-  limit = was.limit;
+  stand = (λ i. was.stand i ++ sym one i) ∙ sym (texts_more kind h es e);
+  many = omega (arith, was.many, many, length-append old texts, ap length same);
+  most = was.most;
 }
 
 -- ---- names
@@ -199,8 +199,8 @@ no_texts_told kind p (Some bytes) first count old w none = λ h es e next placed
     let f = own_follows h es (entry_of kind first is.texts) (subst (λ f. IsLegal h (es ++ f ∷ [])) is.entry next.legal) in
     let was = listing_was kind old h es f.held (placed f.held f.run) in
     let may = may_follow kind h es first is.texts _ f in
-    let over = none (may.0 ∙ sym was.count) in
-    omega (arith, over, may.1.most, length-append (texts_of kind (kept_of h f.held)) is.texts, is.many, was.count, was.limit)
+    let over = none (may.0 ∙ sym was.many) in
+    omega (arith, over, may.1.most, length-append (texts_of kind (kept_of h f.held)) is.texts, is.many, was.many, was.most)
 
 -- a payload that is too short for texts
 pub texts_short : (kind : Which) (p : RecordPlace) (seen : Option (List ℕ)) (old : Placing) → StandsWhole p seen → p.kind ≡ kind_of kind → p.length < 8 → NoneTold p seen (PlacesOf old)

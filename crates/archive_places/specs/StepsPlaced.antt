@@ -16,7 +16,7 @@ use Rattle.archive_open.specs.StepsNext.{new_file}
 use Rattle.word_places.specs.declared.place.WordsPlace.{WordsPlace}
 use Rattle.archive_places.specs.declared.front.SegmentFront.{SegmentFront}
 use Rattle.archive_places.specs.declared.opening.Opening.{Opening}
-use Rattle.archive_places.specs.declared.texts.TextPlaces.{TextPlaces}
+use Rattle.archive_places.specs.declared.opening.TextPlaces.{TextPlaces}
 use Rattle.archive_places.specs.Fronts.{front_of_place}
 use Rattle.archive_places.specs.Words.{types_places_of, words_places_of}
 
@@ -56,9 +56,9 @@ kind_of which.Words = WORDS_KIND
 
 -- the places are these, of so many texts as these are, with this limit
 pub record IsListing (l : Listing) (places : List WordsPlace) (texts : List (List ℕ)) (limit : ℕ) : Type 0 where
-  pub places : l.places ≡ places
-  pub count : l.count ≡ length texts
-  pub limit : l.limit ≡ limit
+  pub stand : l.places ≡ places
+  pub many : l.count ≡ length texts
+  pub most : l.limit ≡ limit
 
 -- that of entries which hold this
 pub record IsPlaced (p : Placing) (h : Header) (es : List JournalEntry) (held : Held) : Type 0 where

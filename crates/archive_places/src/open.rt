@@ -8,10 +8,9 @@ ghost use Rattle.archive_open.specs.Shown.{Looks, RefusedAt, Spares};
 ghost use Rattle.archive_places.specs.Opened.{ArePlacesOrdered, EndsAtGate, OpensPlaces};
 
 use crate::front::FrontList;
-use crate::opening::Opening;
+use crate::opening::{Opening, TextPlaces};
 use crate::places::{PlaceList, Places};
 use crate::segments::sort;
-use crate::texts::TextPlaces;
 use archive_open::{ArchiveRefusal, FileList, keep_all};
 use disk_journal::{Journal, start};
 use log_seams::Disk;

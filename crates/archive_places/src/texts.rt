@@ -1,23 +1,11 @@
-//! Where records of texts stand.
-ghost use Rattle.std.specs.Prelude.{◌≡◌, ◌≤◌, ◌<◌, ◌+◌, ◌^◌, IfOk, IsTrue, IsFalse};
-ghost use Rattle.archive_places.specs.StepsPlaced.{IsInRun, listing_of, no_listing, place_by, with_place};
+//! The places of records of texts, one by one.
+ghost use Rattle.std.specs.Prelude.{◌≡◌, IfOk, IsTrue, IsFalse};
+ghost use Rattle.archive_places.specs.StepsPlaced.{IsInRun, IsOver, listing_of, no_listing, place_by, with_place};
 
+use crate::opening::TextPlaces;
 use disk_journal::RecordPlace;
 use std::alloc::{AllocError, Global};
 use word_places::WordsPlace;
-
-/// Where the records of log types, or those of words, stand that were passed so far.
-#[derive(Drop)]
-pub(crate) struct TextPlaces {
-    /// Where they stand.
-    pub(crate) places: Vec<WordsPlace>,
-    /// How many texts they have.
-    pub(crate) count: u32,
-    /// How many texts there may be.
-    limit: u32,
-    ghost within: { count ≤ limit },
-    ghost few: { limit < 2 ^ 32 },
-}
 
 impl TextPlaces {
     /// None, where there may be so many texts. Takes no memory.
@@ -43,8 +31,8 @@ impl TextPlaces {
             ≡ with_place (place_by place first count) (listing_of self.old)) }
         ensures sound { IfOk result (λ yes. IsTrue yes
             → IsInRun (listing_of self.old) → IsInRun (listing_of self.new)) }
-        ensures refused { IfOk result (λ yes. IsFalse yes → first ≡ self.old.count
-            → self.old.limit < self.old.count + count) }
+        ensures refused { IfOk result (λ yes. IsFalse yes
+            → first ≡ self.old.count → IsOver (listing_of self.old) count) }
     {
         if first != self.count || count > self.limit - self.count {
             return Ok(false);

@@ -1,10 +1,10 @@
-use Rattle.std.proofs.Common.{◌∙◌, List, refl, ap, sym, subst, rules, arith}
+use Rattle.std.proofs.Common.{◌∙◌, List, refl, ap, sym, subst, rules}
 use Rattle.std.specs.List.Sorted.{IsPermutation, IsNonDecreasingBy}
 use Rattle.record_format.specs.declared.header.Header.{Header}
 use Rattle.disk_journal.specs.Journal.{state_of}
 use Rattle.archive_places.specs.declared.front.SegmentFront.{SegmentFront}
 use Rattle.archive_places.specs.Fronts.{order_of_front}
-use Rattle.archive_places.specs.StepsPlaced.{PlacesOf, no_listing, placing_of}
+use Rattle.archive_places.specs.StepsPlaced.{PlacesOf, listing_of, no_listing, placing_of}
 use Rattle.archive_places.proofs.EndLemmas.{has_last_gate, in_order, none_in_run, none_placed, opens}
 use Rattle.archive_places.proofs.open.open_journal.Goals as goal
 
@@ -14,7 +14,7 @@ keep_all-requires-clause-none g c =
     (c.new-2.ensures ∙ ap (λ (h : Header). no_listing h.words_limit) c.header-header.ensures) (search rules) (search rules)
 
 pub keep_all-requires-clause-sound : goal.keep_all-requires-clause-sound
-keep_all-requires-clause-sound g c = none_in_run _ _ _ c.new.ensures c.new-2.ensures
+keep_all-requires-clause-sound g c = (none_in_run _ _ c.new.ensures, none_in_run _ _ c.new-2.ensures)
 
 pub returns-clause-opened : goal.returns-clause-opened
 returns-clause-opened g c =
@@ -34,7 +34,10 @@ returns-clause-opened g c =
 pub returns-clause-order : goal.returns-clause-order
 returns-clause-order g c =
     let opening = c.keep_all.new.keeping in
-    in_order opening _ c.new-5.ensures c.new-6.ensures c.in_ok-keep_all.ensures.sound (omega (arith, opening.types.within, opening.types.few)) (omega (arith, opening.words.within, opening.words.few))
+    let run = c.in_ok-keep_all.ensures.sound in (
+      in_order (listing_of opening.types) _ c.new-5.ensures run.0 opening.types.within opening.types.few,
+      in_order (listing_of opening.words) _ c.new-6.ensures run.1 opening.words.within opening.words.few,
+    )
 
 pub returns-clause-last : goal.returns-clause-last
 returns-clause-last g c =

@@ -2,7 +2,7 @@ use Rattle.std.proofs.Common.{rules, ◌+◌, subst, sym, List}
 use Rattle.word_places.specs.declared.place.WordsPlace.{WordsPlace}
 use Rattle.archive_places.specs.StepsPlaced.{Listing, RunOn, listing_of, place_by}
 use Rattle.archive_places.proofs.TextLemmas.{run_more}
-use Rattle.archive_places.proofs.texts.TextPlaces.add.Goals as goal
+use Rattle.archive_places.proofs.opening.TextPlaces.add.Goals as goal
 
 pub returns-clause-added : goal.returns-clause-added
 returns-clause-added c = λ yes.
