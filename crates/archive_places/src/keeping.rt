@@ -20,7 +20,8 @@ use std::alloc::{AllocError, Global};
 /// How many bytes stand before the texts of a record of log types or of words.
 const TEXTS_FRONT: u64 = 8;
 
-// Adds the place of log types or of words, where they go on with the numbers and there is room for them.
+// Adds the place of log types or of words, where they go on with the numbers and there is room for
+// them.
 fn add_texts(
     opening: &mut Opening,
     kind: Which,
@@ -42,8 +43,8 @@ fn add_texts(
     }
 }
 
-// Keeps where a record of log types or of words stands, of which the first eight bytes alone are loaded,
-// and tells whether it may follow.
+// Keeps where a record of log types or of words stands, of which the first eight bytes alone are
+// loaded, and tells whether it may follow.
 fn keep_texts<D: Disk>(
     alloc: Global,
     journal: &mut Journal<'_, D>,

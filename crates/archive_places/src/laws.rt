@@ -2,8 +2,8 @@
 //! nothing.
 ghost use Rattle.archive_places.specs.Laws.{HeadsStand, TypesStand, WordsStand};
 
-/// Where the bytes of a disk stand for a journal, its log types stand at the places of its records of log
-/// types.
+/// Where the bytes of a disk stand for a journal, its log types stand at the places of its records
+/// of log types.
 pub fn types_stand()
     ensures { TypesStand }
 {}

@@ -1,8 +1,8 @@
-//! Opening an archive by places: its log types, its words and the lists of its heads are left on the
-//! disk.
+//! Opening an archive by places: its log types, its words and the lists of its heads are left on
+//! the disk.
 //!
-//! What is kept of each record is what its front says: of log types and of words where they stand and
-//! their numbers, of a segment the fixed part of its head. Names of files are kept whole.
+//! What is kept of each record is what its front says: of log types and of words where they stand
+//! and their numbers, of a segment the fixed part of its head. Names of files are kept whole.
 #![tactic(auto)]
 
 mod front;

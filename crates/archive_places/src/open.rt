@@ -61,10 +61,10 @@ fn open_journal<D: Disk>(
     })
 }
 
-/// Opens the archive of a disk by places. Where its bytes stand for an archive, what is found is that
-/// archive's; where they stand for none, the answer may be `Damaged`, with a gate that is not before the
-/// first damage. Of a record of log types or of words 8 bytes are read, of a segment 45, and no more of
-/// them is noticed: damage in a text is found when the texts are read.
+/// Opens the archive of a disk by places. Where its bytes stand for an archive, what is found is
+/// that archive's; where they stand for none, the answer may be `Damaged`, with a gate that is not
+/// before the first damage. Of a record of log types or of words 8 bytes are read, of a segment 45,
+/// and no more of them is noticed: damage in a text is found when the texts are read.
 ///
 /// # Errors
 ///

@@ -202,8 +202,8 @@ fn damage(alloc: Global, bytes: &[u8]) -> Result<Option<u64>, ArchiveRefusal> {
     }
 }
 
-// A place, the byte that comes there, and where opening tells damage. What stands in a list, or in a
-// record of log types or of words behind its count, is not read.
+// A place, the byte that comes there, and where opening tells damage. What stands in a list, or in
+// a record of log types or of words behind its count, is not read.
 const CHANGES: &[(usize, u8, Option<u64>)] = &[
     (0, 0x44, Some(0)),
     (33, 0x09, Some(32)),
@@ -247,8 +247,8 @@ fn types_refusal(alloc: Global, bytes: &[u8]) -> Result<Option<HoldRefusal>, Arc
     Ok(TypeTexts::read(alloc, &mut disk, places.types.as_slice()).err())
 }
 
-// A place in the record of log types that opening does not read, and the byte that comes there: the count,
-// the length of its text, and the text.
+// A place in the record of log types that opening does not read, and the byte that comes there: the
+// count, the length of its text, and the text.
 const TYPE_CHANGES: &[(usize, u8, Option<HoldRefusal>)] = &[
     (69, 0x02, Some(HoldRefusal::Damaged)),
     (73, 0x05, Some(HoldRefusal::Damaged)),

@@ -1,4 +1,5 @@
-//! Tests of archives whose log types and words stay on the disk, over the public calls of their crates.
+//! Tests of archives whose log types and words stay on the disk, over the public calls of their
+//! crates.
 #![tactic(auto)]
 
 #[cfg(test)]

@@ -4,7 +4,8 @@ use crate::archive::disk;
 use std::alloc::{AllocError, Global};
 use word_places::{HoldRefusal, TypeTexts, WordsPlace};
 
-/// How many log types stand before two others, so that these are behind all that have their slots kept.
+/// How many log types stand before two others, so that these are behind all that have their slots
+/// kept.
 pub(crate) const MANY: u32 = 1100;
 
 // A log type with two numbers, behind its length.

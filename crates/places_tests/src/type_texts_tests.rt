@@ -77,8 +77,8 @@ fn each_read_may_fail(rt: HostRuntime) -> Result<(), Fail> {
     Ok(())
 }
 
-// A place in one of the records, and the byte that comes there: a first number, a count, and a length that
-// is too great, and one that leaves a byte behind the last text.
+// A place in one of the records, and the byte that comes there: a first number, a count, and a
+// length that is too great, and one that leaves a byte behind the last text.
 const CHANGES: &[(usize, u8)] = &[(91, 1), (95, 2), (99, 0xFF), (114, 1), (247, 2), (251, 3)];
 
 // The same of the archive's bytes with another one at a place.

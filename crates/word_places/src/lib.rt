@@ -1,9 +1,10 @@
-//! Log types and words that stay on the disk: where each record of them stands, and what reads them from
-//! there.
+//! Log types and words that stay on the disk: where each record of them stands, and what reads them
+//! from there.
 //!
-//! An archive that is opened for reading keeps of these records the places alone. A search reads what it
-//! asks. The log types are read before it begins. One pass over the payloads of words finds those that
-//! hold a needle, and the words of a row are read with their record when they are first wanted.
+//! An archive that is opened for reading keeps of these records the places alone. A search reads
+//! what it asks. The log types are read before it begins. One pass over the payloads of words finds
+//! those that hold a needle, and the words of a row are read with their record when they are first
+//! wanted.
 #![tactic(auto)]
 
 mod finding;

@@ -1,8 +1,8 @@
 //! Where log types and words stand on a disk.
 ghost use Rattle.std.specs.Prelude.{◌≡◌, ◌<◌, ◌↔◌, IsTrue, Some, length, slice_get};
 
-/// Where the payload of a record of words stands on a disk, and which words it has. The place of a record
-/// of log types is told alike.
+/// Where the payload of a record of words stands on a disk, and which words it has. The place of a
+/// record of log types is told alike.
 #[derive(Clone, Copy, Debug, PartialEq, Eq)]
 pub struct WordsPlace {
     /// The place of its first byte.

@@ -8,8 +8,8 @@ use crate::types::TypeTexts;
 use dict_core::Texts;
 use std::alloc::{AllocError, Global};
 
-/// What tells the slots of a log type: their bytes, where these are kept, or else its whole text, which is
-/// empty where there is none.
+/// What tells the slots of a log type: their bytes, where these are kept, or else its whole text,
+/// which is empty where there is none.
 #[inline]
 pub(crate) fn slots_at<'t>(slots: &'t Texts, types: &'t TypeTexts, number: u32) -> &'t [u8]
     requires { HaveSlots types.now slots.now }

@@ -16,7 +16,8 @@ use log_seams::Disk;
 use std::alloc::Global;
 use std::marker::Model;
 
-/// The log types of an archive, each at its number: the payloads of their records as they were read.
+/// The log types of an archive, each at its number: the payloads of their records as they were
+/// read.
 #[derive(Drop)]
 pub struct TypeTexts {
     records: Vec<HeldRecord>,
@@ -36,12 +37,13 @@ impl Model for TypeTexts {
 }
 
 impl TypeTexts {
-    /// Reads the records of log types at these places, each once. Their payloads are kept as they stand.
+    /// Reads the records of log types at these places, each once. Their payloads are kept as they
+    /// stand.
     ///
     /// # Errors
     ///
-    /// `DiskFault`, where the disk's count of faults rose; `Damaged`, where its bytes have no log types at
-    /// these places; or `OutOfMemory`.
+    /// `DiskFault`, where the disk's count of faults rose; `Damaged`, where its bytes have no log
+    /// types at these places; or `OutOfMemory`.
     pub fn read<D: Disk>(
         alloc: Global,
         disk: &mut D,
