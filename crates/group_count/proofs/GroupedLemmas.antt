@@ -164,10 +164,10 @@ module _ (law : RowsHaveMinutes) (h : Header) (es : List JournalEntry) (held : H
 
 -- the places have as many log types as there are held
 types_none : (a : Places) (h : Header) (es : List JournalEntry) (held : Held) → ArePlacesOf a h es held → (gone : Gone) → gone.held.types ≡ held.types
-    → (table start : TypeState) → start ≡ table → AreTypes (length a.types) table [] → AreTypes (length gone.held.types) start []
+    → (table start : TypeState) → start ≡ table → AreTypes a.types_count table [] → AreTypes (length gone.held.types) start []
 types_none a h es held is gone types table start is_table none =
     subst (λ (t : TypeState). AreTypes (length gone.held.types) t []) (sym is_table)
-    (subst (λ (l : List (List ℕ)). AreTypes (length l) table []) (is.types ∙ sym types) none)
+    (subst (λ n. AreTypes n table []) (is.types_count ∙ ap (λ (l : List (List ℕ)). length l) (sym types)) none)
 
 module _ (seen : Option (List ℕ)) (a : Places) (opens : OpensPlaces seen a) (q : Asked) (gone : Gone) (e0 e1 o0 o1 : ℕ) where
   pub all_stopped : {T : Type 0} (counted : T → ℕ → List Row → Type 0) (k m : Counts T) → OfJournal seen (λ h es held. HasCounted counted h es held q gone (sofar k e0) (sofar m e1) o0 o1)
@@ -176,7 +176,7 @@ module _ (seen : Option (List ℕ)) (a : Places) (opens : OpensPlaces seen a) (q
       of_places seen a (λ h es held. HasCounted counted h es held q gone (sofar k e0) (sofar m e1) o0 o1) (λ h es held. HasStoppedCounting h es held q o0 o1 e0 e1) opens
       (λ h es held is done. counted_stopped counted h es held q gone (sofar k e0) (sofar m e1) o0 o1 done) has
 
-  module _ (law : RowsHaveTypes) (table : TypeState) (k m : Counts TypeState) (is_table : k.table ≡ table) (none : AreTypes (length a.types) table []) (has : OfJournal seen (λ h es held. HasCounted counted_types h es held q gone (sofar k e0) (sofar m e1) o0 o1)) where
+  module _ (law : RowsHaveTypes) (table : TypeState) (k m : Counts TypeState) (is_table : k.table ≡ table) (none : AreTypes a.types_count table []) (has : OfJournal seen (λ h es held. HasCounted counted_types h es held q gone (sofar k e0) (sofar m e1) o0 o1)) where
     pub all_types_damaged : ((numbers : List ℕ) → AreTypes (length gone.held.types) m.table numbers → ¬ AreNumbered gone.held.types numbers) → OfJournal seen (λ _ _ _. ⊥)
     all_types_damaged never =
         of_places seen a (λ h es held. HasCounted counted_types h es held q gone (sofar k e0) (sofar m e1) o0 o1) (λ _ _ _. ⊥) opens

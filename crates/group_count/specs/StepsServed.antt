@@ -9,8 +9,7 @@ use Rattle.segment_format.specs.Pages.{page_rows}
 use Rattle.segment_pages.specs.Paged.{AreNextTold, Paged, paged_after}
 use Rattle.subquery_filter.specs.declared.verdicts.Verdict.{Verdict}
 use Rattle.archive_places.specs.declared.places.Places.{Places}
-use Rattle.archive_places.specs.Opened.{OpensPlaces}
-use Rattle.word_places.specs.Places.{AreInOrder}
+use Rattle.archive_places.specs.Opened.{ArePlacesOrdered, OpensPlaces}
 use Rattle.search_walk.specs.Held.{Named}
 use Rattle.search_walk.specs.Ready.{IsReadyPage, Serves}
 use Rattle.search_meaning.specs.Scan.{Asked}
@@ -37,7 +36,7 @@ pub record IsServed (s : Scope) (held : HeldNames) (known : Way) : Type 0 where
 pub record MayCount (seen : Option (List ℕ)) (a : Places) (q : Asked) (known : Way) : Type 0 where
   pub searched : IsSearched q.pattern
   pub opens : OpensPlaces seen a
-  pub order : AreInOrder 0 a.words
+  pub order : ArePlacesOrdered a
   pub way : IsWay q known
 
 -- a page is left, on a disk that tells what the names do

@@ -11,7 +11,7 @@ ghost use Rattle.group_count.specs.StepsServed.{MayCount};
 use crate::page_counter::PageCounter;
 use crate::page_taking::count_segments;
 use crate::table::RowTable;
-use archive_places::{Places, heads_stand, words_stand};
+use archive_places::{Places, heads_stand, types_stand, words_stand};
 use log_seams::Disk;
 use search_walk::{Prepared, Query, SearchRefusal};
 use std::sync::ledger::Ledger;
@@ -60,7 +60,8 @@ pub(crate) fn count_archive<D: Disk, T: RowTable, L: Ledger, M: Ledger>(
         (D.state disk.old).faults (D.state disk.new).faults result }
     ensures sink { ¬ IsErrOf result SearchRefusal.SinkFault }
 {
-    // A journal's words and heads stand where its places say.
+    // A journal's log types, words and heads stand where its places say.
+    types_stand();
     words_stand();
     heads_stand();
     let prepared = Prepared::of(counter.alloc(), query, places, disk)?;

@@ -4,8 +4,7 @@ ghost use Rattle.std.specs.Ordering.{int_cmp};
 ghost use Rattle.log_seams.specs.Disk.{Rests};
 ghost use Rattle.log_seams.specs.Outside.{CountsOf};
 ghost use Rattle.query_plan.specs.Laws.{IsSearched};
-ghost use Rattle.archive_places.specs.Opened.{OpensPlaces};
-ghost use Rattle.word_places.specs.Places.{AreInOrder};
+ghost use Rattle.archive_places.specs.Opened.{ArePlacesOrdered, OpensPlaces};
 ghost use Rattle.search_meaning.specs.Journal.{OfJournal, ReadsNoBarren, asked};
 ghost use Rattle.group_count.specs.Grouped.{HasGrouped, HasStoppedCounting};
 ghost use Rattle.search_meaning.specs.Groups.{AreGroups, by_key, by_moment, byte_order, stamped};
@@ -126,7 +125,7 @@ fn group_types<D: Disk, L: Ledger, M: Ledger>(
 {
     // The log types of rows are those of the messages that they are the encodings of.
     rows_have_keys();
-    let table = TypeTable::new(alloc, places.types.len());
+    let table = TypeTable::new(alloc, places.types_count);
     let mut counter = PageCounter::new(alloc, way, table);
     let gone = count_archive(query, places, disk, &mut counter, opened, expanded)?;
     let grouped = types_of(alloc, &counter.counts, &gone)?;
@@ -241,7 +240,7 @@ pub fn group<D: Disk, L: Ledger, M: Ledger>(
 ) -> Result<Grouped, SearchRefusal>
     requires searched { IsSearched pattern.now }
     requires opens { OpensPlaces (D.state disk.old).seen places }
-    requires order { AreInOrder 0 places.words }
+    requires order { ArePlacesOrdered places }
 
     // what stays
     ensures rests { Rests (D.state disk.old) (D.state disk.new) }

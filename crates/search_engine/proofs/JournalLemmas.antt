@@ -5,7 +5,7 @@ use Rattle.archive_open.specs.declared.files.FileEntry.{FileEntry}
 use Rattle.archive_places.specs.declared.front.SegmentFront.{SegmentFront}
 use Rattle.archive_places.specs.declared.places.Places.{Places}
 use Rattle.archive_places.specs.Fronts.{front_of_place}
-use Rattle.archive_places.specs.Laws.{HeadsStand, WordsStand}
+use Rattle.archive_places.specs.Laws.{HeadsStand, TypesStand, WordsStand}
 use Rattle.archive_places.specs.Opened.{OpensPlaces}
 use Rattle.search_engine.specs.declared.counts.Counts.{Counts}
 use Rattle.search_meaning.specs.Scan.{Asked}
@@ -18,12 +18,12 @@ use Rattle.search_walk.proofs.SegmentLemmas.{of_all}
 use Rattle.search_walk.proofs.JournalLemmas.{Knows, of_journal, all_damaged}
 use Rattle.search_engine.proofs.SearchLemmas.{has_searched, has_stopped, last_damaged, last_stopped}
 
-module _ (seen later : Option (List ℕ)) (a : Places) (n : Named) (files : List FileEntry) (fronts : List SegmentFront) (words_law : WordsStand) (heads_law : HeadsStand) (same_files : files ≡ a.files) (same_fronts : fronts ≡ a.segments)
+module _ (seen later : Option (List ℕ)) (a : Places) (n : Named) (files : List FileEntry) (fronts : List SegmentFront) (types_law : TypesStand) (words_law : WordsStand) (heads_law : HeadsStand) (same_files : files ≡ a.files) (same_fronts : fronts ≡ a.segments)
     (opens : OpensPlaces seen a) (known : Knows seen a n) (same : later ≡ seen) where
   pub all_stopped : (q : Asked) (w0 w : Option (List ℕ)) (z : Pending) (e0 e1 o0 o1 : ℕ) → z ≡ nothing_pending → StoppedFronts later n files q fronts (state w0 z e0) w e1 o0 o1
       → OfJournal seen (λ h es held. HasStopped h es held q w0 w o0 o1 e0 e1)
   all_stopped q w0 w z e0 e1 o0 o1 none stopped =
-      of_journal seen a n files fronts (λ m l _ all. Stopped m q l all (state w0 z e0) w e1 o0 o1) (λ h es held. HasStopped h es held q w0 w o0 o1 e0 e1) words_law heads_law same_files same_fronts opens known
+      of_journal seen a n files fronts (λ m l _ all. Stopped m q l all (state w0 z e0) w e1 o0 o1) (λ h es held. HasStopped h es held q w0 w o0 o1 e0 e1) types_law words_law heads_law same_files same_fronts opens known
       (λ l is. subst (λ s. OfSegments s n files l (λ _ all. Stopped n q l all (state w0 z e0) w e1 o0 o1)) same (stopped l is))
       (λ bytes h es stood is has. has_stopped bytes h es q is.ordered w0 w z o0 o1 e0 e1 stood (record { are = is.are; sorted = is.sorted }) none has)
 
@@ -38,7 +38,7 @@ module _ (seen later : Option (List ℕ)) (a : Places) (n : Named) (files : List
   pub last_blamed : (q : Asked) (w0 : Option (List ℕ)) (z : Pending) (b : State) (e0 o0 o1 count : ℕ) → z ≡ nothing_pending → SearchedFronts later n files q fronts (state w0 z e0) b o0 o1 count → Blames n b.pending.pages ⊥
       → OfJournal seen (λ _ _ _. ⊥)
   last_blamed q w0 z b e0 o0 o1 count none searched blames =
-      all_damaged seen later a n files fronts words_law heads_law same_files same_fronts opens known same
+      all_damaged seen later a n files fronts types_law words_law heads_law same_files same_fronts opens known same
       (λ l is. of_all later n files l (λ _ all. Searched n q l all (state w0 z e0) b o0 o1 count) (λ _ _. ⊥)
       (λ bytes all has. last_damaged n q l all (state w0 z e0) b o0 o1 count none has blames) (searched l is))
 
@@ -47,7 +47,7 @@ module _ (seen later : Option (List ℕ)) (a : Places) (n : Named) (files : List
       → OfJournal seen (λ h es held. HasSearched h es held q (record { matched = counts.matched; expanded = counts.expanded; opened = count; segments = length fronts }) w0 w2 o0 o1 e0 e2)
   all_searched q counts count w0 w2 y z b o0 o1 e0 e2 none counted searched finished done =
       of_journal seen a n files fronts (λ m l _ all. Searched m q l all (state w0 y e0) b o0 o1 count × Reaches m q [] b (state w2 z e2))
-      (λ h es held. HasSearched h es held q (record { matched = counts.matched; expanded = counts.expanded; opened = count; segments = length fronts }) w0 w2 o0 o1 e0 e2) words_law heads_law same_files same_fronts opens known
+      (λ h es held. HasSearched h es held q (record { matched = counts.matched; expanded = counts.expanded; opened = count; segments = length fronts }) w0 w2 o0 o1 e0 e2) types_law words_law heads_law same_files same_fronts opens known
       (λ l is. subst (λ s. OfSegments s n files l (λ _ all. Searched n q l all (state w0 y e0) b o0 o1 count × Reaches n q [] b (state w2 z e2))) same
       (of_all later n files l (λ _ all. Searched n q l all (state w0 y e0) b o0 o1 count) (λ _ all. Searched n q l all (state w0 y e0) b o0 o1 count × Reaches n q [] b (state w2 z e2)) (λ bytes all has. (has, finished)) (searched l is)))
       (λ bytes h es stood is has.

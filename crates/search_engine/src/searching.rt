@@ -3,8 +3,7 @@ ghost use Rattle.std.specs.Prelude.{◌≡◌, IfOk, OnErr, IsErrOf};
 ghost use Rattle.log_seams.specs.Disk.{Rests};
 ghost use Rattle.log_seams.specs.Outside.{CountsOf};
 ghost use Rattle.query_plan.specs.Laws.{IsSearched};
-ghost use Rattle.archive_places.specs.Opened.{OpensPlaces};
-ghost use Rattle.word_places.specs.Places.{AreInOrder};
+ghost use Rattle.archive_places.specs.Opened.{ArePlacesOrdered, OpensPlaces};
 ghost use Rattle.search_engine.specs.Waiting.{nothing_pending};
 ghost use Rattle.search_engine.specs.Searched.{HasSearched, HasStopped};
 ghost use Rattle.search_meaning.specs.Journal.{OfJournal, ReadsNoBarren, asked};
@@ -12,7 +11,7 @@ ghost use Rattle.search_meaning.specs.Journal.{OfJournal, ReadsNoBarren, asked};
 use crate::beside::{Crew, Workers, search_fronts};
 use crate::lane::LaneScope;
 use crate::page_batch::PageBatch;
-use archive_places::{Places, heads_stand, words_stand};
+use archive_places::{Places, heads_stand, types_stand, words_stand};
 use column_store::Range;
 use log_seams::{SharedDisk, Sink};
 use search_meaning::Report;
@@ -24,7 +23,7 @@ use step_count::Steps;
 use wild_match::Pattern;
 
 /// Searches the segments of an archive, with nothing gathered, and sends out what is left. A journal's
-/// words and heads stand where its places say.
+/// log types, words and heads stand where its places say.
 fn search_opened<R: Threads + Sync, D: SharedDisk, K: Sink, L: Ledger, M: Ledger>(
     workers: Workers<'_, R>,
     query: &Query,
@@ -37,7 +36,7 @@ fn search_opened<R: Threads + Sync, D: SharedDisk, K: Sink, L: Ledger, M: Ledger
 ) -> Result<Report, SearchRefusal>
     requires searched { IsSearched query.now.pattern }
     requires opens { OpensPlaces (D.Disk.state disk.old).seen places }
-    requires order { AreInOrder 0 places.words }
+    requires order { ArePlacesOrdered places }
     requires empty { batch.old ≡ nothing_pending }
 
     // what stays, and by the answer
@@ -60,6 +59,7 @@ fn search_opened<R: Threads + Sync, D: SharedDisk, K: Sink, L: Ledger, M: Ledger
     ensures sink_counts { CountsOf SearchRefusal.SinkFault
         (K.faults out.old) (K.faults out.new) result }
 {
+    types_stand();
     words_stand();
     heads_stand();
     let prepared = Prepared::of(batch.alloc(), query, places, disk)?;
@@ -95,8 +95,9 @@ fn search_opened<R: Threads + Sync, D: SharedDisk, K: Sink, L: Ledger, M: Ledger
 /// file and its number in the file, by file and then by number. The pattern is one that
 /// [`read_pattern`](wild_match::read_pattern) read, and the places those of the disk.
 ///
-/// Words are read where they are wanted: all of them once, where some log type leaves the decision to
-/// its words or a word that is needed is a variable; and then with its record each word of a message that is written.
+/// Log types are read before the segments, each record once. Words are read where they are wanted: all of
+/// them once, where some log type leaves the decision to its words or a word that is needed is a variable;
+/// and then with its record each word of a message that is written.
 ///
 /// The `workers` are so many threads in all, each with a part of the disk. In a turn each reads and
 /// searches whole segments by itself, up to 65,536 rows or one segment; what they found is printed in
@@ -126,7 +127,7 @@ pub fn search<R: Threads + Sync, D: SharedDisk, K: Sink, L: Ledger, M: Ledger>(
 ) -> Result<Report, SearchRefusal>
     requires searched { IsSearched pattern.now }
     requires opens { OpensPlaces (D.Disk.state disk.old).seen places }
-    requires order { AreInOrder 0 places.words }
+    requires order { ArePlacesOrdered places }
 
     // what stays
     ensures rests { Rests (D.Disk.state disk.old) (D.Disk.state disk.new) }

@@ -3,7 +3,7 @@ use Rattle.std.proofs.Common.{◌≡◌, ◌⊎◌, inl, inr, ⊎_elim, All, get
 use Rattle.std.proofs.lemmas.List.{append-nil}
 use Rattle.std.specs.List.{Contains}
 use Rattle.std.specs.List.Sorted.{IsPermutation}
-use Rattle.std.proofs.lemmas.List.Elements.{All-append, All-weaker, Contains-append_cases}
+use Rattle.std.proofs.lemmas.List.Elements.{All-append, All-weaker, Contains-append_cases, Contains-append_right}
 use Rattle.std.proofs.lemmas.List.Sorted.{Contains-permutation, IsPermutation-sym}
 use Rattle.record_format.specs.declared.header.Header.{Header}
 use Rattle.column_store.specs.declared.row.Row.{Row}
@@ -23,7 +23,10 @@ use Rattle.archive_meaning.specs.Stands.{StandsFor}
 use Rattle.archive_meaning.proofs.UniqueLemmas.{front_joined}
 use Rattle.archive_open.proofs.NextLemmas.{front_length}
 use Rattle.archive_open.specs.declared.segments.SegmentPlace.{SegmentPlace}
-use Rattle.archive_places.specs.Words.{words_from, words_placed, words_places_of}
+use Rattle.archive_places.specs.Words.{texts_from, texts_place, texts_placed, types_places_of, words_places_of}
+use Rattle.row_codec.specs.declared.namer.Which.{Which}
+use Rattle.row_codec.specs.declared.namer.Which.TheVariants as which
+use Rattle.record_format.specs.Lists.{texts_payload}
 use Rattle.word_places.specs.declared.place.WordsPlace.{WordsPlace}
 use Rattle.word_places.specs.Reads.{IsOfWords}
 use Rattle.archive_open.specs.Shown.{columns_begin, columns_end, head_in, order_of, places_from, places_of}
@@ -157,63 +160,73 @@ head_misses bytes h es q p at n stood own low high before after s is barren =
         let whole : before ≡ own.before ++ Segment own.s ∷ mid = front ∙ ap (λ (x : JournalEntry). own.before ++ x ∷ mid) (sym first) in
         inl (omega (arith, high, end, longer_behind h before own.before mid (Segment own.s) whole))
 
--- where a record of words stands in its journal
-record WordsIn (h : Header) (all : List JournalEntry) (p : WordsPlace) : Type 0 where
+-- where a record of log types or of words stands in its journal
+record TextsIn (h : Header) (all : List JournalEntry) (p : WordsPlace) : Type 0 where
   pub before : List JournalEntry
   pub after : List JournalEntry
-  pub first : ℕ
-  pub texts : List (List ℕ)
-  pub parts : all ≡ before ++ Words first texts ∷ after
+  pub e : JournalEntry
+  pub other : (s : SegmentEntry) → e ≡ Segment s → ⊥
+  pub parts : all ≡ before ++ e ∷ after
   pub payload : p.payload ≡ length (front_of h before) + 10
-  pub size : p.length ≡ length (record_of (types_of before) (Words first texts)).payload
+  pub size : p.length ≡ length (record_of (types_of before) e).payload
 
-words_in : (h : Header) (all before es : List JournalEntry) (at : ℕ) (types : List (List ℕ)) (p : WordsPlace) → all ≡ before ++ es → at ≡ length (front_of h before) → types ≡ types_of before
-    → Contains (words_from at types es) p → WordsIn h all p
-words_in h all before [] at types p is place ts here = absurd (omega (arith, here.1))
-words_in h all before (e ∷ es) at types p is place ts here =
-    by_entry e is (Contains-append_cases (words_placed at types e) (words_from (at + 10 + length (record_of types e).payload) (types ++ types_in e) es) p here)
-    (λ later. words_in h all (before ++ e ∷ []) es (at + 10 + length (record_of types e).payload) (types ++ types_in e) p (is ∙ sym (append_assoc before (e ∷ []) es))
-    (ap₂ (λ n t. n + 10 + length (record_of t e).payload) place ts ∙ sym (front_more h before e)) (ap (λ t. t ++ types_in e) ts ∙ sym (types_more before e)) later)
-  where
-    by_entry : (e : JournalEntry) → all ≡ before ++ e ∷ es
-        → Contains (words_placed at types e) p ⊎ Contains (words_from (at + 10 + length (record_of types e).payload) (types ++ types_in e) es) p
-        → (Contains (words_from (at + 10 + length (record_of types e).payload) (types ++ types_in e) es) p → WordsIn h all p) → WordsIn h all p
-    by_entry e is (inr later) go = go later
-    by_entry (Files names) is (inl own) go = absurd (omega (arith, own.1))
-    by_entry (Types first texts) is (inl own) go = absurd (omega (arith, own.1))
-    by_entry (Segment s) is (inl own) go = absurd (omega (arith, own.1))
-    by_entry (Words first texts) is (inl own) go =
-        let zero_at : own.0 ≡ 0 = omega (arith, own.1) in
-        let one : WordsPlace = record { payload = at + 10; length = length (record_of types (Words first texts)).payload; first = first; count = length texts } in
-        let same : one ≡ p = subst (λ j. get_or (one ∷ []) j p ≡ p) zero_at own.2 in
-        record {
-          before = before;
-          after = es;
-          first = first;
-          texts = texts;
-          parts = is;
-          payload = sym (ap (λ (x : WordsPlace). x.payload) same) ∙ ap (λ n. n + 10) place;
-          size = sym (ap (λ (x : WordsPlace). x.length) same) ∙ ap (λ t. length (record_of t (Words first texts)).payload) ts;
-        }
+-- that of an entry at its place
+texts_here : (h : Header) (all before es : List JournalEntry) (e : JournalEntry) (at first : ℕ) (texts : List (List ℕ)) (p : WordsPlace) → ((s : SegmentEntry) → e ≡ Segment s → ⊥)
+    → (record_of (types_of before) e).payload ≡ texts_payload first texts → all ≡ before ++ e ∷ es → at ≡ length (front_of h before) → Contains (texts_place at first texts ∷ []) p → TextsIn h all p
+texts_here h all before es e at first texts p other spelled is place own =
+    let zero_at : own.0 ≡ 0 = omega (arith, own.1) in
+    let one : WordsPlace = texts_place at first texts in
+    let same : one ≡ p = subst (λ j. get_or (one ∷ []) j p ≡ p) zero_at own.2 in
+    record {
+      before = before;
+      after = es;
+      e = e;
+      other = other;
+      parts = is;
+      payload = sym (ap (λ (x : WordsPlace). x.payload) same) ∙ ap (λ n. n + 10) place;
+      size = sym (ap (λ (x : WordsPlace). x.length) same) ∙ ap (λ (l : List ℕ). length l) (sym spelled);
+    }
+
+types_no_segment : (first : ℕ) (texts : List (List ℕ)) (s : SegmentEntry) → Types first texts ≡ Segment s → ⊥
+types_no_segment first texts s is = cc (is)
 
 words_no_segment : (first : ℕ) (texts : List (List ℕ)) (s : SegmentEntry) → Words first texts ≡ Segment s → ⊥
 words_no_segment first texts s is = cc (is)
 
--- a range in a record of words
-words_miss : (bytes : List ℕ) (h : Header) (es : List JournalEntry) (q : Asked) (p : WordsPlace) (at n : ℕ) (stood : StandsFor bytes h es) → WordsIn h es p → p.payload ≤ at → at + n ≤ p.payload + p.length
+texts_in : (h : Header) (all before es : List JournalEntry) (kind : Which) (at : ℕ) (types : List (List ℕ)) (p : WordsPlace) → all ≡ before ++ es → at ≡ length (front_of h before) → types ≡ types_of before
+    → Contains (texts_from kind at types es) p → TextsIn h all p
+texts_in h all before [] kind at types p is place ts here = absurd (omega (arith, here.1))
+texts_in h all before (e ∷ es) kind at types p is place ts here =
+    by_entry kind e is (Contains-append_cases (texts_placed kind at e) (texts_from kind (at + 10 + length (record_of types e).payload) (types ++ types_in e) es) p here)
+    (λ later. texts_in h all (before ++ e ∷ []) es kind (at + 10 + length (record_of types e).payload) (types ++ types_in e) p (is ∙ sym (append_assoc before (e ∷ []) es))
+    (ap₂ (λ n t. n + 10 + length (record_of t e).payload) place ts ∙ sym (front_more h before e)) (ap (λ t. t ++ types_in e) ts ∙ sym (types_more before e)) later)
+  where
+    by_entry : (kind : Which) (e : JournalEntry) → all ≡ before ++ e ∷ es
+        → Contains (texts_placed kind at e) p ⊎ Contains (texts_from kind (at + 10 + length (record_of types e).payload) (types ++ types_in e) es) p
+        → (Contains (texts_from kind (at + 10 + length (record_of types e).payload) (types ++ types_in e) es) p → TextsIn h all p) → TextsIn h all p
+    by_entry kind e is (inr later) go = go later
+    by_entry kind (Files names) is (inl own) go = absurd (omega (arith, own.1))
+    by_entry which.Types (Types first texts) is (inl own) go = texts_here h all before es (Types first texts) at first texts p (types_no_segment first texts) refl is place own
+    by_entry which.Words (Types first texts) is (inl own) go = absurd (omega (arith, own.1))
+    by_entry which.Types (Words first texts) is (inl own) go = absurd (omega (arith, own.1))
+    by_entry which.Words (Words first texts) is (inl own) go = texts_here h all before es (Words first texts) at first texts p (words_no_segment first texts) refl is place own
+    by_entry kind (Segment s) is (inl own) go = absurd (omega (arith, own.1))
+
+-- a range in a record of log types or of words
+texts_miss : (bytes : List ℕ) (h : Header) (es : List JournalEntry) (q : Asked) (p : WordsPlace) (at n : ℕ) (stood : StandsFor bytes h es) → TextsIn h es p → p.payload ≤ at → at + n ≤ p.payload + p.length
     → MissesBarren h es stood.legal.held q at n
-words_miss bytes h es q p at n stood own low high before after s is barren =
-    elim (cut own.before (Words own.first own.texts ∷ own.after) before after (Segment s) (sym own.parts ∙ is)) as (λ z. (at + n ≤ columns_begin h before s) ⊎ (columns_end h before s ≤ at)) [
+texts_miss bytes h es q p at n stood own low high before after s is barren =
+    elim (cut own.before (own.e ∷ own.after) before after (Segment s) (sym own.parts ∙ is)) as (λ z. (at + n ≤ columns_begin h before s) ⊎ (columns_end h before s ≤ at)) [
       | inl more ↦ inr (omega (arith, low, own.payload, longer_behind h own.before before more.0 (Segment s) more.1))
       | inr mid ↦ before_columns mid.0 mid.1.0 mid.1.1
     ]
   where
-    before_columns : (mid : List JournalEntry) → before ≡ own.before ++ mid → Words own.first own.texts ∷ own.after ≡ mid ++ Segment s ∷ after → (at + n ≤ columns_begin h before s) ⊎ (columns_end h before s ≤ at)
-    before_columns [] front rest = absurd (words_no_segment own.first own.texts s (cc (rest)))
+    before_columns : (mid : List JournalEntry) → before ≡ own.before ++ mid → own.e ∷ own.after ≡ mid ++ Segment s ∷ after → (at + n ≤ columns_begin h before s) ⊎ (columns_end h before s ≤ at)
+    before_columns [] front rest = absurd (own.other s (cc (rest)))
     before_columns (m ∷ mid) front rest =
-        let first : Words own.first own.texts ≡ m = cc (rest) in
-        let whole : before ≡ own.before ++ Words own.first own.texts ∷ mid = front ∙ ap (λ (x : JournalEntry). own.before ++ x ∷ mid) (sym first) in
-        inl (omega (arith, high, own.payload, own.size, front_more h own.before (Words own.first own.texts), longer_behind h before own.before mid (Words own.first own.texts) whole))
+        let first : own.e ≡ m = cc (rest) in
+        let whole : before ≡ own.before ++ own.e ∷ mid = front ∙ ap (λ (x : JournalEntry). own.before ++ x ∷ mid) (sym first) in
+        inl (omega (arith, high, own.payload, own.size, front_more h own.before own.e, longer_behind h before own.before mid own.e whole))
 
 -- ---- all that is read
 
@@ -222,10 +235,22 @@ segment_there h es ps p are is =
     let start : 32 ≡ length (front_of h []) = omega (arith, front_length h []) in
     placed_in h es [] es 32 [] p refl start refl (contains_in order_of p (places_of es) (Contains-permutation ps (places_of es) p (IsPermutation-sym (places_of es) ps are) is))
 
+-- where the records of log types and of words stand
+abbrev pub texts_places_of : List JournalEntry → List WordsPlace
+texts_places_of es = types_places_of es ++ words_places_of es
+
+texts_there : (h : Header) (es : List JournalEntry) (p : WordsPlace) → Contains (texts_places_of es) p → TextsIn h es p
+texts_there h es p is =
+    let start : 32 ≡ length (front_of h []) = omega (arith, front_length h []) in
+    ⊎_elim (λ types. texts_in h es [] es which.Types 32 [] p refl start refl types) (λ words. texts_in h es [] es which.Words 32 [] p refl start refl words)
+    (Contains-append_cases (types_places_of es) (words_places_of es) p is)
+
+texts_aside : (bytes : List ℕ) (h : Header) (es : List JournalEntry) (q : Asked) (r : ℕ × ℕ) (stood : StandsFor bytes h es) → IsOfWords (texts_places_of es) r.0 r.1 → MissesBarren h es stood.legal.held q r.0 r.1
+texts_aside bytes h es q r stood texts = texts_miss bytes h es q texts.place r.0 r.1 stood (texts_there h es texts.place texts.one) texts.low texts.high
+
 words_aside : (bytes : List ℕ) (h : Header) (es : List JournalEntry) (q : Asked) (r : ℕ × ℕ) (stood : StandsFor bytes h es) → IsOfWords (words_places_of es) r.0 r.1 → MissesBarren h es stood.legal.held q r.0 r.1
 words_aside bytes h es q r stood words =
-    let start : 32 ≡ length (front_of h []) = omega (arith, front_length h []) in
-    words_miss bytes h es q words.place r.0 r.1 stood (words_in h es [] es 32 [] words.place refl start refl words.one) words.low words.high
+    texts_aside bytes h es q r stood (record { place = words.place; one = Contains-append_right (types_places_of es) (words_places_of es) words.place words.one; low = words.low; high = words.high })
 
 pub reads_aside : (bytes : List ℕ) (h : Header) (es : List JournalEntry) (ps : List SegmentPlace) (q : Asked) (old new : Option (List (ℕ × ℕ))) (stood : StandsFor bytes h es) → IsPermutation (places_of es) ps
     → ReadsOpened (names_in bytes h es stood.legal.held) q ps old new → ReadsNoBarren h es stood.legal.held q old new
@@ -238,12 +263,12 @@ reads_aside bytes h es ps q old new stood are reads = record {
       reads.more reads.each;
 }
 
--- words that were read before
-pub words_read_aside : (bytes : List ℕ) (h : Header) (es : List JournalEntry) (q : Asked) (old mid new : Option (List (ℕ × ℕ))) (stood : StandsFor bytes h es) (more : List (ℕ × ℕ)) → mid ≡ option_map (λ ranges. ranges ++ more) old
-    → All (λ r. IsOfWords (words_places_of es) r.0 r.1) more → ReadsNoBarren h es stood.legal.held q mid new → ReadsNoBarren h es stood.legal.held q old new
-words_read_aside bytes h es q old mid new stood more added within reads = record {
+-- log types and words that were read before
+pub texts_read_aside : (bytes : List ℕ) (h : Header) (es : List JournalEntry) (q : Asked) (old mid new : Option (List (ℕ × ℕ))) (stood : StandsFor bytes h es) (more : List (ℕ × ℕ)) → mid ≡ option_map (λ ranges. ranges ++ more) old
+    → All (λ r. IsOfWords (texts_places_of es) r.0 r.1) more → ReadsNoBarren h es stood.legal.held q mid new → ReadsNoBarren h es stood.legal.held q old new
+texts_read_aside bytes h es q old mid new stood more added within reads = record {
   more = more ++ reads.more;
   added = two_added old mid new more reads.more added reads.added;
   each = All-append (λ r. MissesBarren h es stood.legal.held q r.0 r.1) more reads.more
-      (All-weaker (λ r. IsOfWords (words_places_of es) r.0 r.1) (λ r. MissesBarren h es stood.legal.held q r.0 r.1) (λ r words. words_aside bytes h es q r stood words) more within) reads.each;
+      (All-weaker (λ r. IsOfWords (texts_places_of es) r.0 r.1) (λ r. MissesBarren h es stood.legal.held q r.0 r.1) (λ r texts. texts_aside bytes h es q r stood texts) more within) reads.each;
 }

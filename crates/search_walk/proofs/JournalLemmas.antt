@@ -1,5 +1,5 @@
 -- What was done over the segments of an archive is said of the journal that the bytes stand for.
-use Rattle.std.proofs.Common.{◌≡◌, refl, sym, ap, ap₂, subst, ◌∙◌, ℕ, All, List, [], ◌++◌, map, Option, None, Some, length}
+use Rattle.std.proofs.Common.{◌≡◌, ⊎_elim, refl, sym, ap, ap₂, subst, ◌∙◌, ℕ, All, List, [], ◌++◌, map, Option, None, Some, length}
 use Rattle.std.specs.Prelude.{option_map}
 use Rattle.std.proofs.lemmas.List.{append-nil}
 use Rattle.std.proofs.lemmas.List.Elements.{All-nil}
@@ -19,13 +19,14 @@ use Rattle.search_meaning.specs.Scan.{Asked, all_placed}
 use Rattle.archive_places.specs.declared.front.SegmentFront.{SegmentFront}
 use Rattle.archive_places.specs.declared.places.Places.{Places}
 use Rattle.archive_places.specs.Heads.{HasHeadAt}
-use Rattle.archive_places.specs.Laws.{HeadsStand, WordsStand}
+use Rattle.archive_places.specs.Laws.{HeadsStand, TypesStand, WordsStand}
 use Rattle.archive_places.specs.Opened.{ArePlacesOf, OpensPlaces}
-use Rattle.archive_places.specs.Words.{words_places_of}
+use Rattle.archive_places.specs.Words.{types_places_of, words_places_of}
 use Rattle.word_places.specs.declared.place.WordsPlace.{WordsPlace}
 use Rattle.word_places.specs.Held.{HeldNames, places_of, unread}
 use Rattle.search_walk.specs.Held.{Named, OfSegments, named, words_told}
 use Rattle.search_walk.specs.Opened.{OfFronts, NoFronts, ReadsFronts, ReadsOpened}
+use Rattle.search_walk.specs.Prepared.{LacksTexts, ReadsTexts}
 use Rattle.search_meaning.specs.Journal.{MissesBarren, OfJournal, ReadsNoBarren, asked}
 use Rattle.search_walk.proofs.HeldLemmas.{nothing_distinct, run_distinct}
 use Rattle.search_walk.proofs.ReadyLemmas.{words_are, places_unread}
@@ -33,19 +34,19 @@ use Rattle.search_walk.proofs.RowsHeld.{names_in, rows_told}
 use Rattle.search_walk.proofs.GroupLemmas.{shown_have}
 use Rattle.log_seams.specs.Disk.{DiskState}
 use Rattle.word_places.specs.Places.{AreWords, OfWords}
-use Rattle.word_places.specs.Reads.{IsOfWords, ReadsWords}
-use Rattle.search_walk.proofs.AsideLemmas.{reads_aside, words_read_aside}
+use Rattle.word_places.specs.Reads.{IsOfWords}
+use Rattle.search_walk.proofs.AsideLemmas.{reads_aside, texts_places_of, texts_read_aside}
 use Rattle.search_walk.proofs.PagesReadLemmas.{none_added}
 
 -- the names that the code asks are those at the places
 pub record Knows (seen : Option (List ℕ)) (a : Places) (n : Named) : Type 0 where
-  pub types : n.types ≡ a.types
+  pub types : OfWords seen a.types (λ texts. n.types ≡ texts)
   pub version : n.version ≡ a.header.version
   pub words : n.words ≡ words_told seen a.words
   pub told : n.told ≡ seen
   pub places : n.places ≡ a.words
 
-pub knows : (seen later : Option (List ℕ)) (a : Places) (held : HeldNames) (n : Named) → later ≡ seen → held.types ≡ a.types → held.version ≡ a.header.version → held.records ≡ map unread a.words → n ≡ named later held → Knows seen a n
+pub knows : (seen later : Option (List ℕ)) (a : Places) (held : HeldNames) (n : Named) → later ≡ seen → OfWords seen a.types (λ texts. held.types ≡ texts) → held.version ≡ a.header.version → held.records ≡ map unread a.words → n ≡ named later held → Knows seen a n
 knows seen later a held n same types version records is =
     let places : places_of held.records ≡ a.words = ap places_of records ∙ places_unread a.words in
     subst (Knows seen a) (sym is) (record {
@@ -56,12 +57,19 @@ knows seen later a held n same types version records is =
       places = places;
     })
 
-named_so : (bytes : List ℕ) (h : Header) (es : List JournalEntry) (stood : StandsFor bytes h es) (a : Places) (n : Named) → WordsStand → Knows (Some bytes) a n → ArePlacesOf a h es stood.legal.held
+-- the log types of a journal stand at the places, and so do its words
+types_at : (bytes : List ℕ) (h : Header) (es : List JournalEntry) (stood : StandsFor bytes h es) (a : Places) → TypesStand → ArePlacesOf a h es stood.legal.held → AreWords 0 a.types bytes stood.legal.held.types
+types_at bytes h es stood a law is = subst (λ (l : List WordsPlace). AreWords 0 l bytes stood.legal.held.types) (sym is.types) (law bytes h es stood)
+
+words_at : (bytes : List ℕ) (h : Header) (es : List JournalEntry) (stood : StandsFor bytes h es) (a : Places) → WordsStand → ArePlacesOf a h es stood.legal.held → AreWords 0 a.words bytes stood.legal.held.words
+words_at bytes h es stood a law is = subst (λ (l : List WordsPlace). AreWords 0 l bytes stood.legal.held.words) (sym is.words) (law bytes h es stood)
+
+named_so : (bytes : List ℕ) (h : Header) (es : List JournalEntry) (stood : StandsFor bytes h es) (a : Places) (n : Named) → TypesStand → WordsStand → Knows (Some bytes) a n → ArePlacesOf a h es stood.legal.held
     → n ≡ names_in bytes h es stood.legal.held
-named_so bytes h es stood a n law known is = λ i. record {
+named_so bytes h es stood a n types_law words_law known is = λ i. record {
   version = (known.version ∙ ap (λ (x : Header). x.version) is.header) i;
-  types = (known.types ∙ is.types) i;
-  words = (known.words ∙ ap (words_told (Some bytes)) is.words ∙ words_are 0 (words_places_of es) bytes stood.legal.held.words (law bytes h es stood)) i;
+  types = known.types stood.legal.held.types (types_at bytes h es stood a types_law is) i;
+  words = (known.words ∙ words_are 0 a.words bytes stood.legal.held.words (words_at bytes h es stood a words_law is)) i;
   told = known.told i;
   places = (known.places ∙ is.words) i;
 }
@@ -76,16 +84,16 @@ whole_is : (a : Places) (h : Header) (es : List JournalEntry) (held : Held) (is 
 whole_is a h es held is = record { header = refl; kept = refl; files = is.files; segments = is.are; sorted = is.sorted; entries = refl; end = refl }
 
 pub of_journal : (seen : Option (List ℕ)) (a : Places) (n : Named) (files : List FileEntry) (fronts : List SegmentFront) (P : Named → List SegmentPlace → List ℕ → List Placed → Type 0) (Q : Header → List JournalEntry → Held → Type 0)
-    → WordsStand → HeadsStand → files ≡ a.files → fronts ≡ a.segments → OpensPlaces seen a → Knows seen a n → OfFronts fronts (λ ps. OfSegments seen n files ps (P n ps))
+    → TypesStand → WordsStand → HeadsStand → files ≡ a.files → fronts ≡ a.segments → OpensPlaces seen a → Knows seen a n → OfFronts fronts (λ ps. OfSegments seen n files ps (P n ps))
     → ((bytes : List ℕ) (h : Header) (es : List JournalEntry) (stood : StandsFor bytes h es) (is : ArePlacesOf a h es stood.legal.held)
     → P (names_in bytes h es stood.legal.held) is.ordered bytes (all_placed (content_of stood.legal.held)) → Q h es stood.legal.held)
     → OfJournal seen Q
-of_journal None a n files fronts P Q words_law heads_law same_files same_fronts opens known has step = tt
-of_journal (Some bytes) a n files fronts P Q words_law heads_law same_files same_fronts opens known has step = λ h es stood.
+of_journal None a n files fronts P Q types_law words_law heads_law same_files same_fronts opens known has step = tt
+of_journal (Some bytes) a n files fronts P Q types_law words_law heads_law same_files same_fronts opens known has step = λ h es stood.
     let is = opens h es stood in
     let held = stood.legal.held in
     let m : Named = names_in bytes h es held in
-    let same : n ≡ m = named_so bytes h es stood a n words_law known is in
+    let same : n ≡ m = named_so bytes h es stood a n types_law words_law known is in
     let all : List Placed = all_placed (content_of held) in
     let told : OfSegments (Some bytes) m a.files is.ordered (P m is.ordered) =
     subst (λ x. OfSegments (Some bytes) x a.files is.ordered (P x is.ordered)) same
@@ -120,34 +128,37 @@ opens_later old new a same opens = subst (λ s. OpensPlaces s a) (sym same) open
 nothing_aside : (bytes : List ℕ) (h : Header) (es : List JournalEntry) (q : Asked) (old : Option (List (ℕ × ℕ))) (stood : StandsFor bytes h es) → ReadsNoBarren h es stood.legal.held q old old
 nothing_aside bytes h es q old stood = record { more = []; added = none_added old; each = All-nil (λ r. MissesBarren h es stood.legal.held q r.0 r.1) }
 
--- words alone were read
-pub words_only : (seen : Option (List ℕ)) (a : Places) (q : Asked) (ps : List WordsPlace) (d0 d1 : DiskState) → ps ≡ a.words → OpensPlaces seen a → ReadsWords ps d0 d1
-    → OfJournal seen (λ h es held. ReadsNoBarren h es held q d0.ranges d1.ranges)
-words_only None a q ps d0 d1 same opens reads = tt
-words_only (Some bytes) a q ps d0 d1 same opens reads = λ h es stood.
-    let places : ps ≡ words_places_of es = same ∙ (opens h es stood).words in
-    words_read_aside bytes h es q d0.ranges d1.ranges d1.ranges stood reads.more reads.added (subst (λ (l : List WordsPlace). All (λ r. IsOfWords l r.0 r.1) reads.more) places reads.within)
+-- where the records of a journal's texts stand
+texts_are : (a : Places) (h : Header) (es : List JournalEntry) (held : Held) → ArePlacesOf a h es held → a.types ++ a.words ≡ texts_places_of es
+texts_are a h es held is = ap₂ (λ (x y : List WordsPlace). x ++ y) is.types is.words
+
+-- log types and words alone were read
+pub texts_only : (seen : Option (List ℕ)) (a : Places) (q : Asked) (d0 d1 : DiskState) → OpensPlaces seen a → ReadsTexts a d0 d1 → OfJournal seen (λ h es held. ReadsNoBarren h es held q d0.ranges d1.ranges)
+texts_only None a q d0 d1 opens reads = tt
+texts_only (Some bytes) a q d0 d1 opens reads = λ h es stood.
+    texts_read_aside bytes h es q d0.ranges d1.ranges d1.ranges stood reads.more reads.added
+    (subst (λ (l : List WordsPlace). All (λ r. IsOfWords l r.0 r.1) reads.more) (texts_are a h es stood.legal.held (opens h es stood)) reads.within)
     (nothing_aside bytes h es q d1.ranges stood)
 
--- the bytes have no words there
-pub words_damaged : (seen : Option (List ℕ)) (a : Places) (ps : List WordsPlace) → WordsStand → ps ≡ a.words → OpensPlaces seen a → OfWords seen ps (λ _. ⊥) → OfJournal seen (λ _ _ _. ⊥)
-words_damaged None a ps law same opens none = tt
-words_damaged (Some bytes) a ps law same opens none = λ h es stood.
-    let places : ps ≡ words_places_of es = same ∙ (opens h es stood).words in
-    none stood.legal.held.words (subst (λ (l : List WordsPlace). AreWords 0 l bytes stood.legal.held.words) (sym places) (law bytes h es stood))
+-- the bytes have no log types or no words there
+pub texts_damaged : (seen : Option (List ℕ)) (a : Places) → TypesStand → WordsStand → OpensPlaces seen a → LacksTexts seen a → OfJournal seen (λ _ _ _. ⊥)
+texts_damaged None a types_law words_law opens lacks = tt
+texts_damaged (Some bytes) a types_law words_law opens lacks = λ h es stood.
+    ⊎_elim (λ none. none stood.legal.held.types (types_at bytes h es stood a types_law (opens h es stood)))
+    (λ none. none stood.legal.held.words (words_at bytes h es stood a words_law (opens h es stood))) lacks
 
-module _ (seen later : Option (List ℕ)) (a : Places) (n : Named) (files : List FileEntry) (fronts : List SegmentFront) (words_law : WordsStand) (heads_law : HeadsStand) (same_files : files ≡ a.files) (same_fronts : fronts ≡ a.segments)
-    (opens : OpensPlaces seen a) (known : Knows seen a n) (same : later ≡ seen) where
-  pub all_read : (q : Asked) (ps : List WordsPlace) (d0 d1 d2 : DiskState) → d1.seen ≡ seen → ps ≡ a.words → ReadsWords ps d0 d1 → ReadsFronts d1 d2 n files q fronts → OfJournal seen (λ h es held. ReadsNoBarren h es held q d0.ranges d2.ranges)
-  all_read q ps d0 d1 d2 rest words before reads =
-      of_journal seen a n files fronts (λ m l _ _. ReadsOpened m q l d1.ranges d2.ranges) (λ h es held. ReadsNoBarren h es held q d0.ranges d2.ranges) words_law heads_law same_files same_fronts opens known
+module _ (seen later : Option (List ℕ)) (a : Places) (n : Named) (files : List FileEntry) (fronts : List SegmentFront) (types_law : TypesStand) (words_law : WordsStand) (heads_law : HeadsStand) (same_files : files ≡ a.files)
+    (same_fronts : fronts ≡ a.segments) (opens : OpensPlaces seen a) (known : Knows seen a n) (same : later ≡ seen) where
+  pub all_read : (q : Asked) (d0 d1 d2 : DiskState) → d1.seen ≡ seen → ReadsTexts a d0 d1 → ReadsFronts d1 d2 n files q fronts → OfJournal seen (λ h es held. ReadsNoBarren h es held q d0.ranges d2.ranges)
+  all_read q d0 d1 d2 rest before reads =
+      of_journal seen a n files fronts (λ m l _ _. ReadsOpened m q l d1.ranges d2.ranges) (λ h es held. ReadsNoBarren h es held q d0.ranges d2.ranges) types_law words_law heads_law same_files same_fronts opens known
       (λ l is. subst (λ s. OfSegments s n files l (λ _ _. ReadsOpened n q l d1.ranges d2.ranges)) rest (reads l is))
       (λ bytes h es stood is has.
-      let places : ps ≡ words_places_of es = words ∙ is.words in
-      words_read_aside bytes h es q d0.ranges d1.ranges d2.ranges stood before.more before.added (subst (λ (l : List WordsPlace). All (λ r. IsOfWords l r.0 r.1) before.more) places before.within)
+      texts_read_aside bytes h es q d0.ranges d1.ranges d2.ranges stood before.more before.added
+      (subst (λ (l : List WordsPlace). All (λ r. IsOfWords l r.0 r.1) before.more) (texts_are a h es stood.legal.held is) before.within)
       (reads_aside bytes h es is.ordered q d1.ranges d2.ranges stood is.are has))
 
   pub all_damaged : NoFronts later n files fronts → OfJournal seen (λ _ _ _. ⊥)
   all_damaged none =
-      of_journal seen a n files fronts (λ _ _ _ _. ⊥) (λ _ _ _. ⊥) words_law heads_law same_files same_fronts opens known
+      of_journal seen a n files fronts (λ _ _ _ _. ⊥) (λ _ _ _. ⊥) types_law words_law heads_law same_files same_fronts opens known
       (λ l is. subst (λ s. OfSegments s n files l (λ _ _. ⊥)) same (none l is)) (λ bytes h es stood is has. has)

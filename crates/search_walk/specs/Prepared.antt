@@ -1,15 +1,27 @@
 -- What a walk holds of an archive before it goes over the segments.
-use Rattle.std.specs.Prelude.{◌≡◌, ℕ, List, Option, map}
+use Rattle.std.specs.Prelude.{◌≡◌, ◌⊎◌, ℕ, List, ◌++◌, Option, map}
+use Rattle.log_seams.specs.Disk.{DiskState}
 use Rattle.archive_places.specs.declared.places.Places.{Places}
 use Rattle.word_places.specs.Held.{unread}
+use Rattle.word_places.specs.Places.{OfWords}
+use Rattle.word_places.specs.Reads.{ReadsWords}
 use Rattle.search_meaning.specs.Scan.{Asked}
 use Rattle.search_walk.specs.Held.{named}
 use Rattle.search_walk.specs.StepsScope.{IsScope}
 use Rattle.search_walk.specs.declared.prepared.Prepared.{Prepared}
 
--- the log types, the files and the segments are those of an archive, and so are the records of words, none of which is held
-pub record KeepsPlaces (a : Places) (p : Prepared) : Type 0 where
-  pub types : p.held.types ≡ a.types
+-- only records of log types and of words were read
+abbrev pub ReadsTexts : Places → DiskState → DiskState → Type 0
+ReadsTexts a old new = ReadsWords (a.types ++ a.words) old new
+
+-- a disk that tells its bytes has no log types or no words at their places
+abbrev pub LacksTexts : Option (List ℕ) → Places → Type 0
+LacksTexts told a = OfWords told a.types (λ _. ⊥) ⊎ OfWords told a.words (λ _. ⊥)
+
+-- The files and the segments are those of an archive, and so are the records of words, none of which is held. The log types are
+-- those that stand at its places, where the disk tells its bytes.
+pub record KeepsPlaces (told : Option (List ℕ)) (a : Places) (p : Prepared) : Type 0 where
+  pub types : OfWords told a.types (λ texts. p.held.types ≡ texts)
   pub version : p.held.version ≡ a.header.version
   pub records : p.held.records ≡ map unread a.words
   pub files : p.archive.files ≡ a.files

@@ -3,10 +3,9 @@ ghost use Rattle.std.specs.Prelude.{◌≡◌, IfOk, IsErrOf};
 ghost use Rattle.log_seams.specs.Disk.{Rests};
 ghost use Rattle.log_seams.specs.Outside.{CountsOf};
 ghost use Rattle.query_plan.specs.Laws.{IsSearched};
-ghost use Rattle.word_places.specs.Places.{AreInOrder, OfWords};
-ghost use Rattle.word_places.specs.Reads.{ReadsWords};
+ghost use Rattle.archive_places.specs.Opened.{ArePlacesOrdered};
 ghost use Rattle.search_walk.specs.Held.{named};
-ghost use Rattle.search_walk.specs.Prepared.{IsReadyFor, KeepsPlaces};
+ghost use Rattle.search_walk.specs.Prepared.{IsReadyFor, KeepsPlaces, LacksTexts, ReadsTexts};
 ghost use Rattle.search_walk.specs.StepsScope.{IsScope, scope};
 
 use crate::asking::{Told, ask_words};
@@ -19,7 +18,7 @@ use log_seams::Disk;
 use row_codec::Layouts;
 use std::alloc::Global;
 use subquery_filter::Filter;
-use word_places::HeldWords;
+use word_places::{HeldWords, TypeTexts};
 
 /// An archive whose words were asked what a query leaves to them.
 #[derive(Drop)]
@@ -71,13 +70,13 @@ pub struct Prepared {
 }
 
 impl Prepared {
-    /// Cuts the first log types of an archive, and asks its words what a query leaves to them, and then its
-    /// log types, of which most are rejected by what the words do not bring.
+    /// Reads the log types of an archive and cuts the first of them, and asks its words what a query leaves
+    /// to them, and then its log types, of which most are rejected by what the words do not bring.
     ///
     /// # Errors
     ///
-    /// `DiskFault`, where the disk's count of faults rose; `Damaged`, where no words stand at their
-    /// places; or `OutOfMemory`.
+    /// `DiskFault`, where the disk's count of faults rose; `Damaged`, where no log types or no words stand
+    /// at their places; or `OutOfMemory`.
     pub fn of<D: Disk>(
         alloc: Global,
         query: &Query,
@@ -85,19 +84,19 @@ impl Prepared {
         disk: &mut D,
     ) -> Result<Prepared, SearchRefusal>
         requires searched { IsSearched query.now.pattern }
-        requires order { AreInOrder 0 places.words }
+        requires order { ArePlacesOrdered places }
 
         // what stays
         ensures rests { Rests (D.state disk.old) (D.state disk.new) }
-        ensures reads { ReadsWords places.words (D.state disk.old) (D.state disk.new) }
+        ensures reads { ReadsTexts places (D.state disk.old) (D.state disk.new) }
 
         // by the answer
-        ensures kept { IfOk result (KeepsPlaces places) }
+        ensures kept { IfOk result (KeepsPlaces (D.state disk.old).seen places) }
         ensures ready { IfOk result (IsReadyFor (D.state disk.new).seen query.now) }
 
         // causes
         ensures damaged { IsErrOf result SearchRefusal.Damaged
-            → OfWords (D.state disk.old).seen places.words (λ _. ⊥) }
+            → LacksTexts (D.state disk.old).seen places }
         ensures disk_counts { CountsOf SearchRefusal.DiskFault
             (D.state disk.old).faults (D.state disk.new).faults result }
         ensures sink { ¬ IsErrOf result SearchRefusal.SinkFault }
@@ -108,11 +107,11 @@ impl Prepared {
             words,
             files,
             segments,
-            entries: _,
-            end: _,
+            ..
         } = places;
+        let texts = TypeTexts::read(alloc, disk, types.as_slice())?;
         let records = words.as_slice();
-        let held = HeldWords::new(alloc, types, header.version, records)?;
+        let held = HeldWords::new(alloc, texts, header.version, records)?;
         let layouts = Layouts::front(alloc, &held, LAID_TYPES)?;
         let plan = query.plan();
         let filter = Filter::begin(alloc, plan)?;

@@ -5,7 +5,7 @@ use Rattle.search_walk.specs.Opened.{NoFronts, ReadsFronts}
 use Rattle.search_walk.specs.StepsScope.{Scope}
 use Rattle.search_walk.specs.Walked.{SearchedFronts, StoppedFronts}
 use Rattle.search_walk.proofs.AnswerLemmas.{on_err}
-use Rattle.search_walk.proofs.JournalLemmas.{all_damaged, all_read, words_damaged, words_only}
+use Rattle.search_walk.proofs.JournalLemmas.{all_damaged, all_read, texts_damaged, texts_only}
 use Rattle.search_walk.proofs.PreparedLemmas.{knows_kept, serves_kept}
 use Rattle.group_count.specs.StepsCounted.{Passes, Stops, sofar}
 use Rattle.group_count.specs.StepsServed.{IsServed}
@@ -20,13 +20,13 @@ pub of-requires-clause-order : goal.of-requires-clause-order
 of-requires-clause-order g c = c.requires.order
 
 pub returns-in_err-prepared-clause-reads : goal.returns-in_err-prepared-clause-reads
-returns-in_err-prepared-clause-reads g c = words_only _ c.args.places c.args.query.now c.args.places.words _ _ refl c.requires.opens c.of.ensures.reads
+returns-in_err-prepared-clause-reads g c = texts_only _ c.args.places c.args.query.now _ _ c.requires.opens c.of.ensures.reads
 
 pub returns-in_err-prepared-clause-stopped : goal.returns-in_err-prepared-clause-stopped
 returns-in_err-prepared-clause-stopped g c = on_err c.from_residual.result _ (stopped_nothing _ c.args.places c.args.query.now _ _ _ _ c.requires.opens refl refl)
 
 pub returns-in_err-prepared-clause-damaged : goal.returns-in_err-prepared-clause-damaged
-returns-in_err-prepared-clause-damaged g c = λ is. words_damaged _ c.args.places c.args.places.words c.words_stand.ensures refl c.requires.opens (c.in_err-prepared.ensures.damaged (search rules))
+returns-in_err-prepared-clause-damaged g c = λ is. texts_damaged _ c.args.places c.types_stand.ensures c.words_stand.ensures c.requires.opens (c.in_err-prepared.ensures.damaged (search rules))
 
 pub context-context-requires : goal.context-context-requires
 context-context-requires g c = c.in_ok-prepared.ensures.ready
@@ -36,7 +36,7 @@ count_segments-requires-clause-served g c =
     let p = c.in_ok-prepared.prepared in
     subst (λ (s : Scope). IsServed s p.held c.args.counter.now.way) (sym c.context-context.ensures)
     (record {
-      serves = serves_kept (g.D.Disk.state c.of.new.disk).seen c.args.places p c.requires.order c.in_ok-prepared.ensures.kept;
+      serves = serves_kept (g.D.Disk.state c.args.disk.now).seen (g.D.Disk.state c.of.new.disk).seen c.args.places p c.requires.order c.in_ok-prepared.ensures.kept;
       way = c.requires.way;
     })
 
@@ -53,7 +53,7 @@ returns-in_err-count-clause-reads g c =
     let kept = c.in_ok-prepared.ensures.kept in
     let n : Named = named d1.seen p.held in
     let known = knows_kept d0.seen d1.seen a p c.of.ensures.rests.seen kept in
-    all_read d0.seen d1.seen a n p.archive.files c.as_slice-fronts.result.now c.words_stand.ensures c.heads_stand.ensures kept.files (c.as_slice-fronts.ensures ∙ kept.segments) c.requires.opens known c.of.ensures.rests.seen q a.words d0 d1 (g.D.Disk.state c.count_segments.new.disk) c.of.ensures.rests.seen refl c.of.ensures.reads
+    all_read d0.seen d1.seen a n p.archive.files c.as_slice-fronts.result.now c.types_stand.ensures c.words_stand.ensures c.heads_stand.ensures kept.files (c.as_slice-fronts.ensures ∙ kept.segments) c.requires.opens known c.of.ensures.rests.seen q d0 d1 (g.D.Disk.state c.count_segments.new.disk) c.of.ensures.rests.seen c.of.ensures.reads
     (subst (λ (s : Scope). ReadsFronts d1 (g.D.Disk.state c.count_segments.new.disk) s.names s.files s.query c.as_slice-fronts.result.now) c.context-context.ensures c.count_segments.ensures.reads)
 
 pub returns-in_err-count-clause-rests : goal.returns-in_err-count-clause-rests
@@ -69,7 +69,7 @@ returns-clause-reads g c =
     let kept = c.in_ok-prepared.ensures.kept in
     let n : Named = named d1.seen p.held in
     let known = knows_kept d0.seen d1.seen a p c.of.ensures.rests.seen kept in
-    all_read d0.seen d1.seen a n p.archive.files c.as_slice-fronts.result.now c.words_stand.ensures c.heads_stand.ensures kept.files (c.as_slice-fronts.ensures ∙ kept.segments) c.requires.opens known c.of.ensures.rests.seen q a.words d0 d1 (g.D.Disk.state c.count_segments.new.disk) c.of.ensures.rests.seen refl c.of.ensures.reads
+    all_read d0.seen d1.seen a n p.archive.files c.as_slice-fronts.result.now c.types_stand.ensures c.words_stand.ensures c.heads_stand.ensures kept.files (c.as_slice-fronts.ensures ∙ kept.segments) c.requires.opens known c.of.ensures.rests.seen q d0 d1 (g.D.Disk.state c.count_segments.new.disk) c.of.ensures.rests.seen c.of.ensures.reads
     (subst (λ (s : Scope). ReadsFronts d1 (g.D.Disk.state c.count_segments.new.disk) s.names s.files s.query c.as_slice-fronts.result.now) c.context-context.ensures c.count_segments.ensures.reads)
 
 pub returns-clause-rests : goal.returns-clause-rests
@@ -86,7 +86,7 @@ returns-in_err-count-clause-stopped g c =
     let n : Named = named d1.seen p.held in
     let known = knows_kept d0.seen d1.seen a p c.of.ensures.rests.seen kept in
     on_err c.from_residual-in_err-count.result _
-    (all_stopped d0.seen d1.seen a n p.archive.files c.as_slice-fronts.result.now c.words_stand.ensures c.heads_stand.ensures kept.files (c.as_slice-fronts.ensures ∙ kept.segments) c.requires.opens known c.of.ensures.rests.seen q c.args.expanded.now c.count_segments.new.expanded c.args.opened.now c.count_segments.new.opened
+    (all_stopped d0.seen d1.seen a n p.archive.files c.as_slice-fronts.result.now c.types_stand.ensures c.words_stand.ensures c.heads_stand.ensures kept.files (c.as_slice-fronts.ensures ∙ kept.segments) c.requires.opens known c.of.ensures.rests.seen q c.args.expanded.now c.count_segments.new.expanded c.args.opened.now c.count_segments.new.opened
     (subst (λ (s : Scope). StoppedFronts (λ l. Stops s.names.version s.query l c.args.expanded.now c.count_segments.new.expanded) d1.seen s.names s.files s.query c.as_slice-fronts.result.now c.args.opened.now c.count_segments.new.opened)
     c.context-context.ensures c.in_err-count.ensures.stopped))
 
@@ -100,7 +100,7 @@ returns-in_err-count-clause-damaged g c = λ is.
     let kept = c.in_ok-prepared.ensures.kept in
     let n : Named = named d1.seen p.held in
     let known = knows_kept d0.seen d1.seen a p c.of.ensures.rests.seen kept in
-    all_damaged d0.seen d1.seen a n p.archive.files c.as_slice-fronts.result.now c.words_stand.ensures c.heads_stand.ensures kept.files (c.as_slice-fronts.ensures ∙ kept.segments) c.requires.opens known c.of.ensures.rests.seen (subst (λ (s : Scope). NoFronts d1.seen s.names s.files c.as_slice-fronts.result.now) c.context-context.ensures (c.in_err-count.ensures.damaged (search rules)))
+    all_damaged d0.seen d1.seen a n p.archive.files c.as_slice-fronts.result.now c.types_stand.ensures c.words_stand.ensures c.heads_stand.ensures kept.files (c.as_slice-fronts.ensures ∙ kept.segments) c.requires.opens known c.of.ensures.rests.seen (subst (λ (s : Scope). NoFronts d1.seen s.names s.files c.as_slice-fronts.result.now) c.context-context.ensures (c.in_err-count.ensures.damaged (search rules)))
 
 pub returns-clause-done : goal.returns-clause-done
 returns-clause-done g c =
@@ -114,7 +114,7 @@ returns-clause-done g c =
     let known = knows_kept d0.seen d1.seen a p c.of.ensures.rests.seen kept in
     let x = sofar c.args.counter.now.counts c.args.expanded.now in
     let y = sofar c.count_segments.new.counter.counts c.count_segments.new.expanded in
-    all_counted d0.seen d1.seen a n p.archive.files c.as_slice-fronts.result.now c.words_stand.ensures c.heads_stand.ensures kept.files (c.as_slice-fronts.ensures ∙ kept.segments) c.requires.opens known c.of.ensures.rests.seen g.T.RowTable.counted q _ c.in_ok-count.count x y c.args.opened.now c.count_segments.new.opened
+    all_counted d0.seen d1.seen a n p.archive.files c.as_slice-fronts.result.now c.types_stand.ensures c.words_stand.ensures c.heads_stand.ensures kept.files (c.as_slice-fronts.ensures ∙ kept.segments) c.requires.opens known c.of.ensures.rests.seen g.T.RowTable.counted q _ c.in_ok-count.count x y c.args.opened.now c.count_segments.new.opened
     (subst (λ (s : Scope). c.count_segments.new.held.types ≡ s.names.types) c.context-context.ensures c.in_ok-count.ensures.types) (search rules) (search rules)
     (subst (λ (s : Scope). SearchedFronts (λ l. Passes g.T.RowTable.counted s.names s.query l x y) d1.seen s.names s.files s.query c.as_slice-fronts.result.now c.args.opened.now c.count_segments.new.opened c.in_ok-count.count)
     c.context-context.ensures c.in_ok-count.ensures.done)

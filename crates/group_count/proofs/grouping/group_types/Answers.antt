@@ -1,7 +1,6 @@
-use Rattle.std.proofs.Common.{[], rules, subst, sym}
+use Rattle.std.proofs.Common.{rules, subst, sym}
 use Rattle.search_walk.proofs.AnswerLemmas.{on_err}
 use Rattle.group_count.specs.StepsServed.{IsWay}
-use Rattle.group_count.specs.Tables.{AreTypes}
 use Rattle.group_count.proofs.GroupedLemmas.{all_stopped, all_types, all_types_damaged, counted_types}
 use Rattle.group_count.proofs.grouping.group_types.Goals as goal
 
@@ -15,12 +14,12 @@ pub returns-in_err-grouped-clause-damaged : goal.returns-in_err-grouped-clause-d
 returns-in_err-grouped-clause-damaged g c = λ is.
     all_types_damaged (g.D.Disk.state c.args.disk.now).seen c.args.places c.requires.opens c.args.query.now c.in_ok-gone.gone c.args.expanded.now c.count_archive.new.expanded c.args.opened.now c.count_archive.new.opened c.rows_have_keys.ensures.types
     c.new-table.result c.new-counter.result.counts c.count_archive.new.counter.counts c.new-counter.ensures.table
-    (subst (λ n. AreTypes n c.new-table.result []) c.len.ensures.count c.new-table.ensures) c.in_ok-gone.ensures.done (c.in_err-grouped.ensures.damaged (search rules))
+    c.new-table.ensures c.in_ok-gone.ensures.done (c.in_err-grouped.ensures.damaged (search rules))
 
 pub returns-clause-done : goal.returns-clause-done
 returns-clause-done g c =
     all_types (g.D.Disk.state c.args.disk.now).seen c.args.places c.requires.opens c.args.query.now c.in_ok-gone.gone c.args.expanded.now c.count_archive.new.expanded c.args.opened.now c.count_archive.new.opened c.rows_have_keys.ensures.types c.new-table.result
-    c.new-counter.result.counts c.count_archive.new.counter.counts c.new-counter.ensures.table (subst (λ n. AreTypes n c.new-table.result []) c.len.ensures.count c.new-table.ensures) c.in_ok-gone.ensures.done c.in_ok-grouped.grouped c.new-counter.ensures.matched c.new-counter.ensures.expanded c.in_ok-grouped.ensures.report
+    c.new-counter.result.counts c.count_archive.new.counter.counts c.new-counter.ensures.table c.new-table.ensures c.in_ok-gone.ensures.done c.in_ok-grouped.grouped c.new-counter.ensures.matched c.new-counter.ensures.expanded c.in_ok-grouped.ensures.report
     c.in_ok-grouped.ensures.groups c.in_ok-grouped.ensures.moments c.in_ok-grouped.ensures.without
 
 pub count_archive-requires : goal.count_archive-requires
