@@ -236,14 +236,14 @@ fn more_open_tokens_than_planned(rt: HostRuntime) -> Result<(), Fail> {
     Ok(())
 }
 
-/// A pattern over rows, what is printed, what is counted, and how many calls of the disk there are.
-/// Three segments have rows, and the head of each is read by one call. Where the pattern has a token,
-/// each of the three records of words is read by one. The log types of a segment are read by one, its page
-/// then by five, and the record of the word that its row has by one more.
+/// A pattern over rows, what is printed, what is counted, and how many calls of the disk there are. One
+/// reads the record of log types. Three segments have rows, and the head of each is read by one call. Where
+/// the pattern has a token, each of the three records of words is read by one. The column of log types of a
+/// segment is read by one, its page then by five, and the record of the word that its row has by one more.
 const OF_ROWS: &[(&[u8], &[u8], Counts, u64)] = &[
-    (b" task_2 ", b"a.log:2:run task_2 x\n", (1, 1, 1, 4), 13),
-    (b" task_9 ", b"", (0, 0, 0, 4), 6),
-    (b"run;x", b"", (0, 0, 3, 4), 6),
+    (b" task_2 ", b"a.log:2:run task_2 x\n", (1, 1, 1, 4), 14),
+    (b" task_9 ", b"", (0, 0, 0, 4), 7),
+    (b"run;x", b"", (0, 0, 3, 4), 7),
 ];
 
 /// Whether a search of the rows prints that, counts that, and calls the disk so often.
@@ -368,10 +368,13 @@ fn is_damaged<R: Threads + Sync>(
     Ok(told && outcome.printed.bytes() == printed)
 }
 
-/// How many workers there are, a place of the third segment whose byte is 9, and what is printed then:
+/// How many workers there are, a place whose byte is 9, and what is printed then. In the third segment,
 /// where the count of the variables is wrong, its page cannot be read; where there is no such log type,
-/// the row cannot be written. The lines of the pages before are sent in both cases.
+/// the row cannot be written. The lines of the pages before are sent in both cases. Where the text of the
+/// log type has another length, its record spells no texts, and nothing is searched.
 const DAMAGES: &[(u32, usize, &[u8])] = &[
+    (1, 73, b""),
+    (2, 73, b""),
     (1, 421, b"a.log:1:run task_1 x\na.log:2:run task_2 x\n"),
     (2, 421, b"a.log:1:run task_1 x\na.log:2:run task_2 x\n"),
     (5, 421, b"a.log:1:run task_1 x\na.log:2:run task_2 x\n"),
@@ -508,9 +511,9 @@ fn calls_until_printed<R: Threads + Sync>(
 
 #[test]
 fn a_page_is_printed_before_the_next_is_read(rt: HostRuntime) -> Result<(), Fail> {
-    // One call reads the head, and five the page. No archive has so many rows in a segment, so their log
-    // types are not read.
-    assert!(rt; calls_until_printed(&rt, 1, rt.alloc(), 6)?);
+    // One call reads the record of log types, one the head, and five the page. No archive has so many rows
+    // in a segment, so their log types are not read.
+    assert!(rt; calls_until_printed(&rt, 1, rt.alloc(), 7)?);
     Ok(())
 }
 
@@ -532,18 +535,18 @@ fn two_pages(alloc: Global, row: usize, at: usize, byte: u8) -> Result<Vec<u8>, 
 }
 
 /// How many workers there are, the row of the second message, a pattern, how many messages are found, and how
-/// many calls of the disk there are. One reads the head, and one the log types of the segment. A page whose
-/// log types have no `x` is passed by one more, and by none where the last 4,096 rows have none. A page that is
-/// taken is read by five.
+/// many calls of the disk there are. One reads the record of log types, one the head, and one the log types of
+/// the segment. A page whose log types have no `x` is passed by one more, and by none where the last 4,096 rows
+/// have none. A page that is taken is read by five.
 const OF_TYPES: &[(u32, usize, &[u8], u64, u64)] = &[
-    (1, 4_999, b"x", 1, 8),
-    (2, 4_999, b"x", 1, 8),
-    (1, 0, b"x", 1, 7),
-    (1, 903, b"x", 1, 7),
-    (1, 4_095, b"x", 1, 8),
-    (1, 4_096, b"x", 1, 8),
-    (1, 4_999, b"a", 5_000, 12),
-    (1, 4_999, b"y", 0, 1),
+    (1, 4_999, b"x", 1, 9),
+    (2, 4_999, b"x", 1, 9),
+    (1, 0, b"x", 1, 8),
+    (1, 903, b"x", 1, 8),
+    (1, 4_095, b"x", 1, 9),
+    (1, 4_096, b"x", 1, 9),
+    (1, 4_999, b"a", 5_000, 13),
+    (1, 4_999, b"y", 0, 2),
 ];
 
 /// Whether with so many workers a search of the bytes finds so many messages in one segment, and calls the
@@ -576,9 +579,10 @@ fn a_page_that_its_log_types_rule_out_is_passed(rt: HostRuntime) -> Result<(), F
 fn of_a_segment_that_its_log_types_rule_out_nothing_else_is_read(
     rt: HostRuntime,
 ) -> Result<(), Fail> {
-    // The head lists the log type with `x`, and no row has it. One call reads the head, and one the log types.
+    // The head lists the log type with `x`, and no row has it. One call reads the record of log types, one
+    // the head, and one the log types of the segment.
     let bytes = two_pages(rt.alloc(), 4_999, 65_158, 0)?;
-    let well = finds_by_calls(&rt, 1, rt.alloc(), bytes.as_slice(), b"x", 0, 2)?;
+    let well = finds_by_calls(&rt, 1, rt.alloc(), bytes.as_slice(), b"x", 0, 3)?;
     assert!(rt; well);
     Ok(())
 }

@@ -249,9 +249,11 @@ fn by_minute(rt: HostRuntime) -> Result<(), Fail> {
 }
 
 /// A place of the rows with its byte, a call of the disk that fails, what is counted, and how that is
-/// refused. Byte 417 has the log type of the third row, and byte 421 how many variables it has, which a
-/// count of all messages does not read.
+/// refused. Byte 73 has the length of the log type's text. Byte 417 has the log type of the third row, and
+/// byte 421 how many variables it has, which a count of all messages does not read.
 const REFUSED: &[(usize, u8, u64, &[u8], SearchRefusal)] = &[
+    (73, 9, 99, b"", SearchRefusal::Damaged),
+    (73, 9, 99, b"run", SearchRefusal::Damaged),
     (417, 9, 99, b"", SearchRefusal::Damaged),
     (417, 9, 99, b"run", SearchRefusal::Damaged),
     (421, 9, 99, b"run", SearchRefusal::Damaged),

@@ -64,6 +64,28 @@ change 104 "\x02"
 call check
 is 6 "" "clpa: archive: damaged at 78\n"
 
+# ---- a record of log types that spells no texts is told by what reads them, at the last gate
+disk $worked
+change 73 "\x02"
+call search a
+is 6 "" "clpa: archive: damaged at 154\n"
+call count --by type ""
+is 6 "" "clpa: archive: damaged at 154\n"
+call count --by minute a
+is 6 "" "clpa: archive: damaged at 154\n"
+call check
+is 6 "" "clpa: archive: damaged at 55\n"
+# and not by what reads none
+call files
+is 0 "0 1 whole a.log\n"
+# its numbers are read by all
+disk $worked
+change 65 "\x01"
+call files
+is 6 "" "clpa: archive: damaged at 55\n"
+call search a
+is 6 "" "clpa: archive: damaged at 55\n"
+
 # ---- a changed byte may make another archive
 # the gate before the log type is closed
 disk $worked
