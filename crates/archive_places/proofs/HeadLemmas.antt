@@ -1,5 +1,5 @@
 -- Heads of segments, where they stand and as they were read.
-use Rattle.std.proofs.Common.{◌≡◌, ℕ, ◌+◌, ◌<◌, List, [], ◌∷◌, ◌++◌, Option, Some, None, Result, Ok, Err, length, take, drop, refl, sym, ◌∙◌, ap, ap₂, subst, arith}
+use Rattle.std.proofs.Common.{◌≡◌, ℕ, ◌+◌, ◌<◌, ◌≤◌, List, [], ◌∷◌, ◌++◌, Option, Some, None, Result, Ok, Err, length, take, drop, refl, sym, ◌∙◌, ap, ap₂, subst, arith}
 use Rattle.std.specs.Prelude.{All, IfSome, IfOk}
 use Rattle.std.proofs.lemmas.List.{append-nil, append_assoc, drop_at, take_at, length-take, length-drop}
 use Rattle.std.proofs.lemmas.List.Elements.{All-nil, All-cons, All-append, All-same}
@@ -73,7 +73,7 @@ heads_stand bytes h es stood =
 -- ---- as they were read
 
 -- bytes that end within it are no head
-pub short_head : (told : Option (List ℕ)) (front : SegmentFront) (n : ℕ) (old new : List ℕ) → Gave told front.payload n old new → length old ≡ head_length (fixed_in front) → n < length old
+pub short_head : (told : Option (List ℕ)) (front : SegmentFront) (n : ℕ) (old new : List ℕ) → Gave told front.payload n old new → length old ≤ head_length (fixed_in front) → n < length old
     → OfFront told front (λ _. ⊥)
 short_head None front n old new gave len less = tt
 short_head (Some bytes) front n old new gave len less = λ p is has.
@@ -153,7 +153,7 @@ pub all_read : (told : Option (List ℕ)) (front : SegmentFront) (text : List �
 all_read told front text (Ok p) these is head = one_read told front text p these is head.0 head.1
 all_read told front text (Err e) these is head = tt
 
-pub text_read : (told : Option (List ℕ)) (front : SegmentFront) (text buffer : List ℕ) → text ≡ buffer → IfSome told (λ bytes. buffer ≡ take (head_length (fixed_in front)) (drop front.payload bytes))
+pub text_read : (told : Option (List ℕ)) (front : SegmentFront) (size : ℕ) (text buffer : List ℕ) → size ≡ head_length (fixed_in front) → text ≡ buffer → IfSome told (λ bytes. buffer ≡ take size (drop front.payload bytes))
     → IfSome told (λ bytes. text ≡ take (head_length (fixed_in front)) (drop front.payload bytes))
-text_read None front text buffer same these = tt
-text_read (Some bytes) front text buffer same these = same ∙ these
+text_read None front size text buffer sized same these = tt
+text_read (Some bytes) front size text buffer sized same these = same ∙ these ∙ ap (λ n. take n (drop front.payload bytes)) sized

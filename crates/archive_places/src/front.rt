@@ -1,5 +1,5 @@
 //! A segment by the fixed part of its head.
-ghost use Rattle.std.specs.Prelude.{◌≡◌, ◌≢◌, Bool, length, IfSome, IsNone};
+ghost use Rattle.std.specs.Prelude.{◌≡◌, ◌≢◌, ◌+◌, ◌*◌, Bool, length, IfSome, IsNone};
 ghost use Rattle.segment_format.specs.Layout.{IsFixed, fixed_bytes, flags, head_length};
 ghost use Rattle.archive_places.specs.Fronts.{fixed_in};
 
@@ -52,6 +52,13 @@ impl SegmentFront {
         ensures { result ≡ head_length (fixed_in self.now) }
     {
         FIXED_LEN + 4 * (u64::from(self.types) + u64::from(self.words))
+    }
+
+    /// Where in the head its list of words begins.
+    pub fn types_end(&self) -> u64
+        ensures { result ≡ 45 + 4 * self.now.types }
+    {
+        FIXED_LEN + 4 * u64::from(self.types)
     }
 }
 

@@ -1,5 +1,5 @@
-//! Reading the head of a segment with its two lists.
-ghost use Rattle.std.specs.Prelude.{◌≡◌, ◌≢◌, ◌↔◌, length, take, drop, IfOk, OnOk, IfSome, IsErrOf, IsTrue, IsFalse, Err};
+//! Reading the head of a segment, with its two lists or with that of its log types alone.
+ghost use Rattle.std.specs.Prelude.{◌≡◌, ◌≢◌, ◌↔◌, ◌≤◌, ◌+◌, ◌*◌, length, take, drop, IfOk, OnOk, IfSome, IsErrOf, IsTrue, IsFalse, Err};
 ghost use Rattle.log_seams.specs.Disk.{ReadsOnly, Rests};
 ghost use Rattle.log_seams.specs.Outside.{CountsOf};
 ghost use Rattle.segment_format.specs.Layout.{IsHead, head_bytes, head_length};
@@ -7,33 +7,41 @@ ghost use Rattle.archive_open.specs.declared.segments.SegmentPlace.{SegmentPlace
 ghost use Rattle.archive_places.specs.Fronts.{fixed_in, front_of_place};
 ghost use Rattle.archive_places.specs.Heads.{OfFront};
 ghost use Rattle.archive_places.specs.StepsHeads.{HasFlags, HasNumbers, placed_by};
+ghost use Rattle.archive_places.specs.TypeHeads.{types_bytes, without_words};
 
-use crate::front::SegmentFront;
+use crate::front::{FIXED_LEN, SegmentFront};
+use crate::numbers::list_in;
 use archive_open::SegmentPlace;
 use log_seams::Disk;
+use plain_list::NumberList;
 use segment_format::{Head, read_head};
 use segment_pages::PageRefusal;
 use std::alloc::Global;
 
-// Fills a buffer with a head, whose length it has.
-fn fill<D: Disk>(disk: &mut D, front: &SegmentFront, buffer: &mut [u8]) -> Result<(), PageRefusal>
-    requires { length buffer.old ≡ head_length (fixed_in front.now) }
+// Fills a buffer with the first bytes of a head, so many as it has room for.
+fn fill<D: Disk>(
+    disk: &mut D,
+    front: &SegmentFront,
+    size: u64,
+    buffer: &mut [u8],
+) -> Result<(), PageRefusal>
+    requires exact { length buffer.old ≡ size }
+    requires within { size ≤ head_length (fixed_in front.now) }
 
     // what stays
     ensures rests { Rests (D.state disk.old) (D.state disk.new) }
-    ensures reads { ReadsOnly front.now.payload (head_length (fixed_in front.now))
-        (D.state disk.old) (D.state disk.new) }
+    ensures reads { ReadsOnly front.now.payload size (D.state disk.old) (D.state disk.new) }
 
     // by the answer, and causes
     ensures filled { OnOk result (IfSome (D.state disk.old).seen (λ bytes. buffer.new
-        ≡ take (head_length (fixed_in front.now)) (drop front.now.payload bytes))) }
+        ≡ take size (drop front.now.payload bytes))) }
     ensures damaged { IsErrOf result PageRefusal.Damaged
         → OfFront (D.state disk.old).seen front.now (λ _. ⊥) }
     ensures counts { CountsOf PageRefusal.DiskFault
         (D.state disk.old).faults (D.state disk.new).faults result }
 {
     let count = disk.read(front.payload, buffer)?;
-    if count < buffer.len() {
+    if (count as u64) < size {
         return Err(PageRefusal::Damaged);
     }
     Ok(())
@@ -123,7 +131,72 @@ pub fn load_segment<D: Disk>(
     ensures counts { CountsOf PageRefusal.DiskFault
         (D.state disk.old).faults (D.state disk.new).faults result }
 {
-    let mut bytes = vec![in alloc; 0; front.head_len() as usize]?;
-    fill(disk, front, bytes.as_mut_slice())?;
+    let size = front.head_len();
+    let mut bytes = vec![in alloc; 0; size as usize]?;
+    fill(disk, front, size, bytes.as_mut_slice())?;
     segment_of(alloc, front, bytes.as_slice())
+}
+
+// The segment of a front whose head lists these log types, and no words.
+fn types_of(alloc: Global, front: &SegmentFront, bytes: &[u8]) -> Result<SegmentPlace, PageRefusal>
+    requires { length bytes.now ≡ 45 + 4 * front.now.types }
+    ensures types { IfOk result (λ p. (q : SegmentPlace) → front_of_place q ≡ front.now
+        → IsHead q.head → bytes.now ≡ types_bytes q.head → p ≡ without_words q) }
+    ensures damaged { IsErrOf result PageRefusal.Damaged → (q : SegmentPlace)
+        → front_of_place q ≡ front.now → IsHead q.head → bytes.now ≢ types_bytes q.head }
+    ensures disk { ¬ IsErrOf result PageRefusal.DiskFault }
+{
+    let (_, listed) = bytes.split_at(FIXED_LEN as usize);
+    let types = list_in(alloc, listed)?;
+    Ok(SegmentPlace {
+        at: front.at,
+        payload: front.payload,
+        length: front.length,
+        head: Head {
+            file: front.file,
+            first: front.first,
+            rows: front.rows,
+            last: front.last,
+            ended: front.ended,
+            stamped: front.stamped,
+            least: front.least,
+            greatest: front.greatest,
+            types,
+            words: NumberList::new(Vec::new(alloc)),
+            variables: front.variables,
+        },
+    })
+}
+
+/// Reads the head of a segment without its list of words, by one read: none is listed here. Where the
+/// disk's bytes have a head with this front there, it is that one but for its words.
+///
+/// # Errors
+///
+/// `DiskFault`, where the disk's count of faults rose; `Damaged`, where no head with this front stands
+/// there: where the disk ends within its list of log types, or that does not rise; or `OutOfMemory`.
+pub fn load_types<D: Disk>(
+    alloc: Global,
+    disk: &mut D,
+    front: &SegmentFront,
+) -> Result<SegmentPlace, PageRefusal>
+    // what stays
+    ensures rests { Rests (D.state disk.old) (D.state disk.new) }
+    ensures reads { ReadsOnly front.now.payload (45 + 4 * front.now.types)
+        (D.state disk.old) (D.state disk.new) }
+
+    // by the answer
+    ensures loaded { IfOk result (λ p. OfFront (D.state disk.old).seen front.now
+        (λ q. p ≡ without_words q)) }
+
+    // causes
+    ensures damaged { IsErrOf result PageRefusal.Damaged
+        → OfFront (D.state disk.old).seen front.now (λ _. ⊥) }
+    ensures counts { CountsOf PageRefusal.DiskFault
+        (D.state disk.old).faults (D.state disk.new).faults result }
+{
+    let size = front.types_end();
+    let mut bytes = vec![in alloc; 0; size as usize]?;
+    fill(disk, front, size, bytes.as_mut_slice())?;
+    types_of(alloc, front, bytes.as_slice())
 }

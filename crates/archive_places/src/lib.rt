@@ -9,6 +9,7 @@ mod front;
 mod heads;
 mod keeping;
 mod laws;
+mod numbers;
 mod open;
 mod opening;
 mod places;
@@ -16,7 +17,7 @@ mod segments;
 mod texts;
 
 pub use front::{FrontList, SegmentFront};
-pub use heads::load_segment;
+pub use heads::{load_segment, load_types};
 pub use laws::{heads_stand, types_stand, words_stand};
 pub use open::open_places;
 pub use places::{PlaceList, Places};

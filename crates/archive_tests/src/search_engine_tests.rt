@@ -411,6 +411,28 @@ fn grown(
     Ok(bytes)
 }
 
+/// A pattern, what is printed of `NUMBERS` where the head's words do not rise, and whether that is told: their
+/// list is read only where some word brings a token of the pattern.
+const OF_WORDS: &[(&[u8], &[u8], bool)] = &[
+    (b"53", b"a.log:1:12534\n", false),
+    (b"12*34", b"", true),
+];
+
+#[test]
+fn words_that_tell_nothing_stay_unread(rt: HostRuntime) -> Result<(), Fail> {
+    for &(text, printed, told) in OF_WORDS {
+        // The last number of the list of log types is made the first one of the list of words.
+        let bytes = grown(rt.alloc(), &NUMBERS, NUMBERS.len(), &[(160, 2), (164, 2)])?;
+        let outcome = searched(&rt, 1, rt.alloc(), bytes.as_slice(), text, ALL, 1_000)?;
+        let damaged = outcome.answer == Err(SearchRefusal::Damaged);
+        assert!(rt;
+            damaged == told && outcome.printed.bytes() == printed,
+            "{text:?}"
+        );
+    }
+    Ok(())
+}
+
 /// Whether with so many workers a search of 40,000 rows, which are ten pages, prints and answers what it
 /// does with one, where a byte is this one.
 fn is_as_with_one<R: Threads + Sync>(

@@ -3,7 +3,8 @@
 use crate::archive::{ARCHIVE, TYPES, WORDS, changed, disk};
 use archive_open::{Archive, ArchiveRefusal, PlainBooks, SegmentPlace, open_archive};
 use archive_places::{
-    Places, SegmentFront, heads_stand, load_segment, open_places, types_stand, words_stand,
+    Places, SegmentFront, heads_stand, load_segment, load_types, open_places, types_stand,
+    words_stand,
 };
 use segment_pages::PageRefusal;
 use std::alloc::{AllocError, Global};
@@ -191,6 +192,59 @@ fn may_fail(alloc: Global) -> bool {
 #[test]
 fn the_read_of_a_head_may_fail(rt: HostRuntime) {
     assert!(rt; may_fail(rt.alloc()));
+}
+
+// The segment at an index without its words, read from a disk with these bytes, of which these calls fail.
+fn types_of(
+    alloc: Global,
+    bytes: &[u8],
+    fails: &[u64],
+    index: usize,
+) -> Result<SegmentPlace, PageRefusal> {
+    let Ok(places) = open(alloc, &ARCHIVE) else {
+        return Err(PageRefusal::OutOfMemory);
+    };
+    let Some(front) = places.segments.as_slice().get(index) else {
+        return Err(PageRefusal::OutOfMemory);
+    };
+    let mut disk = disk(alloc, bytes, fails)?;
+    load_types(alloc, &mut disk, front)
+}
+
+// Whether it is the segment of a whole head but for the words.
+fn has_types(alloc: Global, index: usize) -> Result<bool, PageRefusal> {
+    let place = types_of(alloc, &ARCHIVE, &[], index)?;
+    let whole = load(alloc, &ARCHIVE, &[], index)?;
+    let same = place.payload == whole.payload && place.length == whole.length;
+    let head = &place.head;
+    let listed = head.types.as_slice() == whole.head.types.as_slice() && head.words.len() == 0;
+    Ok(same && listed && head.rows == whole.head.rows && head.first == whole.head.first)
+}
+
+fn have_types(alloc: Global) -> Result<bool, PageRefusal> {
+    Ok(has_types(alloc, 0)? && has_types(alloc, 1)?)
+}
+
+#[test]
+fn heads_are_loaded_without_words(rt: HostRuntime) {
+    assert!(rt; have_types(rt.alloc()) == Ok(true));
+}
+
+// Why the first segment is not loaded without its words.
+fn types_refusal(alloc: Global, bytes: &[u8], fails: &[u64]) -> Option<PageRefusal> {
+    types_of(alloc, bytes, fails, 0).err()
+}
+
+fn types_break_off(alloc: Global) -> bool {
+    types_refusal(alloc, &ARCHIVE[..178], &[]) == Some(PageRefusal::Damaged)
+        && types_refusal(alloc, &ARCHIVE[..179], &[]) == None
+        && types_refusal(alloc, &ARCHIVE, &[0]) == Some(PageRefusal::DiskFault)
+        && types_refusal(alloc, &ARCHIVE, &[1]) == None
+}
+
+#[test]
+fn log_types_that_break_off_are_damaged(rt: HostRuntime) {
+    assert!(rt; types_break_off(rt.alloc()));
 }
 
 // The place of the damage that opening tells.

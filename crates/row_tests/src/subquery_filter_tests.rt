@@ -159,8 +159,16 @@ pub(crate) fn is_told(
     verdict == want && !left_out && agrees(filter, row, verdict)
 }
 
+/// Whether the log types of a head alone leave a segment a match where all of the head does; and they tell
+/// as much where no word brings a token.
+fn agrees_by_types(filter: &Filter, head: &Head, may: bool) -> bool {
+    let by_types = filter.may_match_types(head);
+    by_types == may || (by_types && !filter.spares_words())
+}
+
 /// Whether the filter leaves a segment a match, which lists these log types and words and has rows with
-/// stamps between two moments, or none with a stamp.
+/// stamps between two moments, or none with a stamp. Where the log types alone tell something else, the
+/// answer is the wrong one.
 pub(crate) fn may_match(
     alloc: Global,
     filter: &Filter,
@@ -174,7 +182,8 @@ pub(crate) fn may_match(
         greatest,
         ..head_of(alloc, 1, between.is_some(), types, words)?
     };
-    Ok(filter.may_match(&head))
+    let may = filter.may_match(&head);
+    Ok(may == agrees_by_types(filter, &head, may))
 }
 
 /// Whether the verdicts on the rows of a page, which have one log type and the same words, are these.

@@ -17,7 +17,9 @@ use Rattle.archive_places.specs.Fronts.{fixed_in, front_of_place}
 use Rattle.archive_places.specs.Heads.{OfFront}
 use Rattle.printed_lines.specs.Lines.{Placed}
 use Rattle.search_meaning.specs.Scan.{Asked}
+use Rattle.search_walk.specs.declared.loaded.LoadedSegment.{LoadedSegment}
 use Rattle.search_walk.specs.Held.{Named, OfSegments}
+use Rattle.search_walk.specs.Loaded.{IsLoaded, OfLoaded}
 use Rattle.search_meaning.specs.Opened.{IsBarrenFor}
 use Rattle.search_walk.specs.Opened.{IsRead, NoFronts, OfFronts, ReadsFronts, ReadsOpened, ReadsTold}
 use Rattle.search_walk.specs.Walked.{SearchedFronts, StoppedFronts}
@@ -29,15 +31,14 @@ use Rattle.search_walk.proofs.RunLemmas.{past_damaged, past_end, past_next, past
 
 -- ---- one segment
 
--- what holds of the segment whose head was loaded holds of each with this front
-pub loaded_all : (seen : Option (List ℕ)) (n : Named) (files : List FileEntry) (front : SegmentFront) (p : SegmentPlace) (X : List SegmentPlace → List ℕ → List Placed → Type 0) → OfFront seen front (λ r. p ≡ r)
-    → OfSegments seen n files (p ∷ []) (X (p ∷ [])) → (ps : List SegmentPlace) → map front_of_place ps ≡ front ∷ [] → OfSegments seen n files ps (X ps)
-loaded_all None n files front p X loaded has ps is = tt
-loaded_all (Some bytes) n files front p X loaded has [] is = absurd (cc (is))
-loaded_all (Some bytes) n files front p X loaded has (r ∷ s ∷ ps) is = absurd (cc (is))
-loaded_all (Some bytes) n files front p X loaded has (r ∷ []) is = λ all distinct have.
-    let own : front_of_place r ≡ front = cc (is) in
-    subst (λ (x : SegmentPlace). OfSegments (Some bytes) n files (x ∷ []) (X (x ∷ []))) (loaded r own have.4.stands) has all distinct have
+-- what holds of the segment that was loaded holds of each with this front
+pub loaded_all : (seen : Option (List ℕ)) (n : Named) (files : List FileEntry) (q : Asked) (front : SegmentFront) (s : LoadedSegment) (X : List SegmentPlace → List ℕ → List Placed → Type 0) → OfFront seen front (IsLoaded q s)
+    → OfLoaded q s (λ p. OfSegments seen n files (p ∷ []) (X (p ∷ []))) → (ps : List SegmentPlace) → map front_of_place ps ≡ front ∷ [] → OfSegments seen n files ps (X ps)
+loaded_all None n files q front s X loaded has ps is = tt
+loaded_all (Some bytes) n files q front s X loaded has [] is = absurd (cc (is))
+loaded_all (Some bytes) n files q front s X loaded has (r ∷ t ∷ ps) is = absurd (cc (is))
+loaded_all (Some bytes) n files q front s X loaded has (r ∷ []) is = λ all distinct have.
+    let own : front_of_place r ≡ front = cc (is) in has r (loaded r own have.4.stands) all distinct have
 
 -- no segment has this front
 pub loaded_none : (seen : Option (List ℕ)) (n : Named) (files : List FileEntry) (front : SegmentFront) → OfFront seen front (λ _. ⊥) → NoFronts seen n files (front ∷ [])
@@ -69,26 +70,25 @@ head_reads (Some bytes) n files q front old new reads (r ∷ []) is = λ all dis
     let own : front_of_place r ≡ front = cc (is) in head_read n q front r old new own reads
 
 -- and then what the search of the segment reads
-reads_loaded : (seen : Option (List ℕ)) (n : Named) (files : List FileEntry) (q : Asked) (front : SegmentFront) (p : SegmentPlace) (old mid new : DiskState) → OfFront seen front (λ r. p ≡ r)
-    → ReadsOnly front.payload (head_length (fixed_in front)) old mid → OfSegments seen n files (p ∷ []) (λ _ _. ReadsOpened n q (p ∷ []) mid.ranges new.ranges)
+reads_loaded : (seen : Option (List ℕ)) (n : Named) (files : List FileEntry) (q : Asked) (front : SegmentFront) (s : LoadedSegment) (old mid new : DiskState) → OfFront seen front (IsLoaded q s)
+    → ReadsOnly front.payload (head_length (fixed_in front)) old mid → OfLoaded q s (λ p. OfSegments seen n files (p ∷ []) (λ _ _. ReadsOpened n q (p ∷ []) mid.ranges new.ranges))
     → OfFronts (front ∷ []) (λ ps. OfSegments seen n files ps (λ _ _. ReadsOpened n q ps old.ranges new.ranges))
-reads_loaded None n files q front p old mid new loaded head reads ps is = tt
-reads_loaded (Some bytes) n files q front p old mid new loaded head reads [] is = absurd (cc (is))
-reads_loaded (Some bytes) n files q front p old mid new loaded head reads (r ∷ s ∷ ps) is = absurd (cc (is))
-reads_loaded (Some bytes) n files q front p old mid new loaded head reads (r ∷ []) is = λ all distinct have.
+reads_loaded None n files q front s old mid new loaded head reads ps is = tt
+reads_loaded (Some bytes) n files q front s old mid new loaded head reads [] is = absurd (cc (is))
+reads_loaded (Some bytes) n files q front s old mid new loaded head reads (r ∷ t ∷ ps) is = absurd (cc (is))
+reads_loaded (Some bytes) n files q front s old mid new loaded head reads (r ∷ []) is = λ all distinct have.
     let own : front_of_place r ≡ front = cc (is) in
-    reads_joined n q (r ∷ []) old.ranges mid.ranges new.ranges (head_read n q front r old mid own head)
-    (subst (λ (x : SegmentPlace). OfSegments (Some bytes) n files (x ∷ []) (λ _ _. ReadsOpened n q (x ∷ []) mid.ranges new.ranges)) (loaded r own have.4.stands) reads all distinct have)
+    reads_joined n q (r ∷ []) old.ranges mid.ranges new.ranges (head_read n q front r old mid own head) (reads r (loaded r own have.4.stands) all distinct have)
 
-pub segment_reads : (n : Named) (files : List FileEntry) (q : Asked) (front : SegmentFront) (p : SegmentPlace) (old mid new : DiskState) → mid.seen ≡ old.seen → OfFront old.seen front (λ r. p ≡ r)
-    → ReadsOnly front.payload (head_length (fixed_in front)) old mid → ReadsTold mid new n files q (p ∷ []) → ReadsFronts old new n files q (front ∷ [])
-segment_reads n files q front p old mid new same loaded head reads =
-    reads_loaded old.seen n files q front p old mid new loaded head (subst (λ s. OfSegments s n files (p ∷ []) (λ _ _. ReadsOpened n q (p ∷ []) mid.ranges new.ranges)) same reads)
+pub segment_reads : (n : Named) (files : List FileEntry) (q : Asked) (front : SegmentFront) (s : LoadedSegment) (old mid new : DiskState) → mid.seen ≡ old.seen → OfFront old.seen front (IsLoaded q s)
+    → ReadsOnly front.payload (head_length (fixed_in front)) old mid → OfLoaded q s (λ p. ReadsTold mid new n files q (p ∷ [])) → ReadsFronts old new n files q (front ∷ [])
+segment_reads n files q front s old mid new same loaded head reads =
+    reads_loaded old.seen n files q front s old mid new loaded head (λ p is. subst (λ x. OfSegments x n files (p ∷ []) (λ _ _. ReadsOpened n q (p ∷ []) mid.ranges new.ranges)) same (reads p is))
 
 -- what holds of the segment that was loaded, said of the disk before
-pub later_all : (seen later : Option (List ℕ)) (n : Named) (files : List FileEntry) (front : SegmentFront) (p : SegmentPlace) (X : List SegmentPlace → List ℕ → List Placed → Type 0) → later ≡ seen → OfFront seen front (λ r. p ≡ r)
-    → OfSegments later n files (p ∷ []) (X (p ∷ [])) → OfFronts (front ∷ []) (λ ps. OfSegments seen n files ps (X ps))
-later_all seen later n files front p X same loaded has = loaded_all seen n files front p X loaded (subst (λ s. OfSegments s n files (p ∷ []) (X (p ∷ []))) same has)
+pub later_all : (seen later : Option (List ℕ)) (n : Named) (files : List FileEntry) (q : Asked) (front : SegmentFront) (s : LoadedSegment) (X : List SegmentPlace → List ℕ → List Placed → Type 0) → later ≡ seen → OfFront seen front (IsLoaded q s)
+    → OfLoaded q s (λ p. OfSegments later n files (p ∷ []) (X (p ∷ []))) → OfFronts (front ∷ []) (λ ps. OfSegments seen n files ps (X ps))
+later_all seen later n files q front s X same loaded has = loaded_all seen n files q front s X loaded (λ p is. subst (λ x. OfSegments x n files (p ∷ []) (X (p ∷ []))) same (has p is))
 
 -- a segment whose front is out of the range
 pub outside_done : (F : List Placed → Type 0) (seen : Option (List ℕ)) (n : Named) (files : List FileEntry) (q : Asked) (front : SegmentFront) (t : ℕ) → Over n q F → WideIsWider → BarrenHasNoMatch → IsSearched q.pattern

@@ -15,6 +15,7 @@ pub mod JournalLemmas
 pub mod PageLemmas
 pub mod PassLemmas
 pub mod RunLemmas
+pub mod LoadedLemmas
 pub mod FrontLemmas
 pub mod SearchedLemmas
 pub mod PreparedLemmas

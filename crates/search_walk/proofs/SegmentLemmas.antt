@@ -11,7 +11,8 @@ use Rattle.column_store.specs.declared.row.Row.{Row}
 use Rattle.row_codec.specs.Means.{AreCanonical, IsCanonical}
 use Rattle.plain_list.specs.Texts.{AreDistinct}
 use Rattle.segment_format.specs.Layout.{sorted_set, IsHead, head_of}
-use Rattle.segment_pages.specs.Paged.{HoldsLeft, HoldsSegment, Paged, paged_first}
+use Rattle.segment_format.specs.Pages.{first_page}
+use Rattle.segment_pages.specs.Paged.{HoldsLeft, HoldsSegment, Paged, columns_size}
 use Rattle.archive_meaning.specs.declared.TheConstants.{MAX_MESSAGES}
 use Rattle.query_plan.specs.Laws.{IsSearched, WideIsWider}
 use Rattle.query_plan.specs.Pieces.{wide_pieces}
@@ -24,7 +25,7 @@ use Rattle.search_meaning.specs.Scan.{Asked, IsFound, IsTried}
 use Rattle.search_walk.specs.Held.{HasMessages, HaveMessages, IsTold, Named, OfLeft, OfSegments}
 use Rattle.search_walk.specs.PagesRead.{IsOfPage, ReadsPage}
 use Rattle.search_meaning.specs.Opened.{IsBarrenFor}
-use Rattle.search_walk.specs.Opened.{IsRead, ReadsOpened}
+use Rattle.search_walk.specs.Opened.{IsRead, ReadsOpened, columns_at}
 use Rattle.row_codec.specs.Numbers.{numbers_of_row}
 use Rattle.segment_format.proofs.SetLemmas.{has_sorted_set}
 use Rattle.search_walk.proofs.RowLemmas.{of_range}
@@ -133,15 +134,15 @@ pub nothing_read : (seen : Option (List ℕ)) (n : Named) (files : List FileEntr
 nothing_read None n files q ps old new same = tt
 nothing_read (Some bytes) n files q ps old new same = λ all distinct have. subst (ReadsOpened n q ps old) (sym same) (none_read n q ps old)
 
-pub columns_read : (seen : Option (List ℕ)) (n : Named) (files : List FileEntry) (q : Asked) (p : SegmentPlace) (b : Bool) (pages : Paged) (old new : DiskState) → Tells n q p b → b ≡ false → pages ≡ paged_first p.payload p.head
-    → ReadsPage n pages old new → OfSegments seen n files (p ∷ []) (λ _ _. ReadsOpened n q (p ∷ []) old.ranges new.ranges)
-columns_read None n files q p b pages old new told shut is reads = tt
-columns_read (Some bytes) n files q p b pages old new told shut is reads = λ all distinct have.
-    let own : ReadsPage n (paged_first p.payload p.head) old new = subst (λ x. ReadsPage n x old new) is reads in
+pub columns_read : (seen : Option (List ℕ)) (n : Named) (files : List FileEntry) (q : Asked) (p : SegmentPlace) (b : Bool) (pages : Paged) (old new : DiskState) → Tells n q p b → b ≡ false → pages.at + pages.pages.start ≡ columns_at p
+    → columns_size pages.pages ≡ columns_size (first_page p.head) → ReadsPage n pages old new → OfSegments seen n files (p ∷ []) (λ _ _. ReadsOpened n q (p ∷ []) old.ranges new.ranges)
+columns_read None n files q p b pages old new told shut start size reads = tt
+columns_read (Some bytes) n files q p b pages old new told shut start size reads = λ all distinct have.
     let no_barren : ¬ IsBarrenFor n.types n.words q p = not_barren n q p b told shut have.4.are.told have.4.holds.is_head distinct in
     record {
-      more = own.more;
-      added = own.added;
-      each = All-weaker (IsOfPage n (paged_first p.payload p.head)) (IsRead n q (p ∷ []))
-          (λ r is. ⊎_elim (λ within. inl (record { p = p; is = Contains-push [] p; opened = no_barren; start = within.0; end = within.1 })) (λ words. inr (inr words)) is) own.more own.each;
+      more = reads.more;
+      added = reads.added;
+      each = All-weaker (IsOfPage n pages) (IsRead n q (p ∷ []))
+          (λ r is. ⊎_elim (λ within. inl (record { p = p; is = Contains-push [] p; opened = no_barren; start = omega (arith, start, within.0); end = omega (arith, start, size, within.1) })) (λ words. inr (inr words)) is)
+          reads.more reads.each;
     }

@@ -5,6 +5,7 @@ pub mod StepsScope
 pub mod Ready
 pub mod Judged
 pub mod Opened
+pub mod Loaded
 pub mod Refused
 pub mod Takes
 pub mod Walked

@@ -4,8 +4,7 @@ use Rattle.std.specs.List.{Contains}
 use Rattle.segment_format.specs.Layout.{fixed_of, head_length}
 use Rattle.segment_format.specs.Pages.{first_page}
 use Rattle.column_store.specs.declared.row.Row.{Row}
-use Rattle.segment_pages.specs.Paged.{HoldsLeft, HoldsSegment, Paged, columns_size, paged_first}
-use Rattle.archive_meaning.specs.declared.TheConstants.{MAX_MESSAGES}
+use Rattle.segment_pages.specs.Paged.{HoldsLeft, HoldsSegment, Paged, columns_size}
 use Rattle.log_seams.specs.Disk.{DiskState}
 use Rattle.archive_open.specs.declared.files.FileEntry.{FileEntry}
 use Rattle.archive_open.specs.declared.segments.SegmentPlace.{SegmentPlace}
@@ -49,11 +48,11 @@ pub record ReadsOpened (n : Named) (q : Asked) (ps : List SegmentPlace) (old new
   pub added : new ≡ option_map (λ ranges. ranges ++ more) old
   pub each : All (IsRead n q ps) more
 
--- this is the file of the segment, the reader stands before the first page, and the opening was counted
+-- this is the file of the segment, the reader's columns are those of the segment, and the opening was counted
 pub record IsOpened (files : List FileEntry) (p : SegmentPlace) (f : FileEntry) (pages : Paged) (old new : ℕ) : Type 0 where
   pub file : slice_get files p.head.file ≡ Some f
-  pub first : p.head.first ≤ MAX_MESSAGES
-  pub starts : pages ≡ paged_first p.payload p.head
+  pub start : pages.at + pages.pages.start ≡ columns_at p
+  pub size : columns_size pages.pages ≡ columns_size (first_page p.head)
   pub holds : (bytes : List ℕ) (rows : List Row) → HoldsSegment p.payload p.length p.head bytes rows → HoldsLeft pages bytes rows
   pub ticked : new ≡ old + 1
 

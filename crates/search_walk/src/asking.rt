@@ -36,7 +36,7 @@ fn flag_at(flags: &[bool], place: usize) -> bool
 }
 
 /// Whether some needed word is a variable.
-fn has_variable(variables: &[bool]) -> bool
+pub(crate) fn has_variable(variables: &[bool]) -> bool
     ensures { IsFalse result → (k : ℕ) → ¬ (slice_get variables.now k ≡ Some true) }
 {
     for place in 0..variables.len() {

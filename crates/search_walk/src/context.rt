@@ -1,5 +1,5 @@
 //! What each call of a search lends on to the next.
-ghost use Rattle.std.specs.Prelude.{◌≡◌, ◌<◌, ◌⊎◌, ◌∷◌, ◌↔◌, [], ℕ, List, All, Option, Some, IfSome, IsFalse, IsNone, IsTrue, length, slice_get};
+ghost use Rattle.std.specs.Prelude.{◌≡◌, ◌<◌, ◌≤◌, ◌⊎◌, ◌∷◌, ◌↔◌, [], ℕ, List, All, Option, Some, IfSome, IsFalse, IsNone, IsTrue, length, slice_get};
 ghost use Rattle.plain_list.specs.Texts.{AreDistinct};
 ghost use Rattle.column_store.specs.Row.{row_of};
 ghost use Rattle.column_store.specs.declared.row.Row.{Row};
@@ -10,17 +10,22 @@ ghost use Rattle.query_plan.specs.Laws.{IsSearched};
 ghost use Rattle.query_plan.specs.Pieces.{wide_pieces};
 ghost use Rattle.barren_segments.specs.Barren.{IsBounded, LeavesOut};
 ghost use Rattle.subquery_filter.specs.declared.filter.Filter.{Filter};
+ghost use Rattle.subquery_filter.specs.ByTypes.{NeedsNoVariable};
 ghost use Rattle.subquery_filter.specs.Filter.{HasNoMatch, IsFilter, Rejects};
 ghost use Rattle.subquery_filter.specs.Page.{IsPage};
 ghost use Rattle.search_walk.specs.Held.{IsTold, Named, named};
 ghost use Rattle.search_meaning.specs.Opened.{IsBarrenFor};
+ghost use Rattle.search_walk.specs.Loaded.{OfLoaded};
 ghost use Rattle.search_walk.specs.Opened.{IsOpened, NoneTold};
 ghost use Rattle.search_walk.specs.Ready.{IsDecided, IsRuledOut};
 ghost use Rattle.search_walk.specs.StepsScope.{IsScope, scope};
 
+use crate::asking::has_variable;
+use crate::loaded::LoadedSegment;
 use crate::opening::open_segment;
 use crate::query::Query;
-use archive_open::{FileEntry, SegmentPlace};
+use archive_meaning::MAX_MESSAGES;
+use archive_open::FileEntry;
 use archive_places::SegmentFront;
 use column_store::{Columns, RowRef};
 use log_seams::Disk;
@@ -98,13 +103,14 @@ impl<'q, D: Disk> Context<'q, D> {
     /// The file of a segment, and a reader of its pages. None where no archive has such a segment.
     pub fn begin_segment<L: Ledger>(
         &self,
-        segment: &SegmentPlace,
+        segment: &LoadedSegment,
         opened: &mut Steps<L>,
     ) -> Option<(&FileEntry, SegmentPages)>
-        ensures some { IfSome result (λ r.
-            IsOpened self.now.files segment.now r.0.now r.1 opened.old opened.new) }
-        ensures none { IsNone result → (seen : Option (List ℕ)) (n : Named)
-            → NoneTold seen n self.now.files (segment.now ∷ []) }
+        ensures some { IfSome result (λ r. OfLoaded self.now.query segment.now (λ p.
+            IsOpened self.now.files p r.0.now r.1 opened.old opened.new)) }
+        ensures first { IfSome result (λ _. segment.now.place.head.first ≤ MAX_MESSAGES) }
+        ensures none { IsNone result → OfLoaded self.now.query segment.now (λ p.
+            (seen : Option (List ℕ)) (n : Named) → NoneTold seen n self.now.files (p ∷ [])) }
     {
         open_segment(self.files, segment, opened)
     }
@@ -128,15 +134,15 @@ impl<'q, D: Disk> Context<'q, D> {
 
     /// Whether a segment's head tells that none of its messages is found. The pattern is one that was
     /// read, as the laws of barren segments ask.
-    pub fn is_barren(&self, held: &HeldWords, segment: &SegmentPlace) -> bool
+    pub fn is_barren(&self, held: &HeldWords, segment: &LoadedSegment) -> bool
         requires { held.now.types ≡ self.now.names.types }
-        ensures told { IsTold self.now.names → IsHead segment.now.head
-            → AreDistinct self.now.names.words → IsTrue result ↔ IsBarrenFor
-            self.now.names.types self.now.names.words self.now.query segment.now }
+        ensures told { OfLoaded self.now.query segment.now (λ p. IsTold self.now.names
+            → IsHead p.head → AreDistinct self.now.names.words → IsTrue result ↔ IsBarrenFor
+            self.now.names.types self.now.names.words self.now.query p) }
         ensures searched { IsSearched self.now.query.pattern }
     {
         barren_by(
-            &segment.head,
+            &segment.place.head,
             self.query.plan(),
             self.query.range(),
             held,
@@ -146,12 +152,27 @@ impl<'q, D: Disk> Context<'q, D> {
 
     /// Whether the log types and words that a segment's head lists, and its moments, leave one of its
     /// messages.
-    pub fn may_match(&self, segment: &SegmentPlace) -> bool
-        ensures { IsFalse result → IsTold self.now.names
-            → HasNoMatch (wide_pieces self.now.query.pattern)
-            self.now.names.types self.now.names.words segment.now.head }
+    pub fn may_match(&self, segment: &LoadedSegment) -> bool
+        ensures { IsFalse result → OfLoaded self.now.query segment.now (λ p.
+            IsTold self.now.names → HasNoMatch (wide_pieces self.now.query.pattern)
+            self.now.names.types self.now.names.words p.head) }
     {
-        self.filter.may_match(&segment.head)
+        let head = &segment.place.head;
+        if segment.unread == 0 {
+            return self.filter.may_match(head);
+        }
+        self.filter.may_match_types(head)
+    }
+
+    /// Whether the lists of words in heads tell a search nothing: no word brings a token of the pattern,
+    /// and no needed word is a variable.
+    pub fn spares_words(&self) -> bool
+        ensures { IsTrue result → NeedsNoVariable (wide_pieces self.now.query.pattern) }
+    {
+        if has_variable(self.query.plan().needed_variables()) {
+            return false;
+        }
+        self.filter.spares_words()
     }
 
     /// Whether these log types tell that no message of a row that has one of them is expanded, whatever

@@ -1,21 +1,19 @@
 //! The segments of an archive, gone over one after the other.
 ghost use Rattle.std.specs.Prelude.{◌≡◌, ◌<◌, [], ◌∷◌, length, slice_get, Some, IfOk, OnErr, IsErrOf, cond};
-ghost use Rattle.log_seams.specs.Disk.{ReadsOnly, Rests};
+ghost use Rattle.log_seams.specs.Disk.{Rests};
 ghost use Rattle.log_seams.specs.Outside.{CountsOf};
-ghost use Rattle.segment_format.specs.Layout.{head_length};
-ghost use Rattle.archive_places.specs.Fronts.{fixed_in, front_of_place};
-ghost use Rattle.archive_places.specs.Heads.{OfFront};
+ghost use Rattle.search_walk.specs.Loaded.{OfLoaded};
 ghost use Rattle.search_walk.specs.Opened.{NoFronts, NoneTold, ReadsFronts, ReadsTold};
 ghost use Rattle.search_walk.specs.Walked.{SearchedFronts, SearchedTold, StoppedFronts, StoppedTold};
 
 use crate::context::Context;
 use crate::label::Label;
+use crate::loaded::{LoadedSegment, load_head};
 use crate::paging::read_pages;
 use crate::passing::TypeRoom;
 use crate::refusal::SearchRefusal;
 use crate::taking::TakesPages;
-use archive_open::SegmentPlace;
-use archive_places::{SegmentFront, load_segment};
+use archive_places::SegmentFront;
 use log_seams::Disk;
 use query_plan::wide_is_wider;
 use std::alloc::Global;
@@ -29,7 +27,7 @@ use word_places::HeldWords;
 fn search_segment<D: Disk, W: TakesPages, L: Ledger>(
     context: &Context<'_, D>,
     held: &mut HeldWords,
-    segment: &SegmentPlace,
+    segment: &LoadedSegment,
     disk: &mut D,
     work: &mut W,
     room: &mut TypeRoom,
@@ -40,25 +38,26 @@ fn search_segment<D: Disk, W: TakesPages, L: Ledger>(
 
     // what stays
     ensures rests { Rests (D.state disk.old) (D.state disk.new) }
-    ensures reads { ReadsTold (D.state disk.old) (D.state disk.new)
-        context.now.names context.now.files context.now.query (segment.now ∷ []) }
+    ensures reads { OfLoaded context.now.query segment.now (λ p. ReadsTold
+        (D.state disk.old) (D.state disk.new)
+        context.now.names context.now.files context.now.query (p ∷ [])) }
     ensures lent { W.lent work.new ≡ W.lent work.old }
     ensures served { IfOk result (λ _. W.served work.new context.now held.new) }
 
     // by the answer
-    ensures done { IfOk result (λ yes. SearchedTold
+    ensures done { IfOk result (λ yes. OfLoaded context.now.query segment.now (λ p. SearchedTold
         (W.reaches work.old work.new context.now.names context.now.query) (D.state disk.old).seen
-        context.now.names context.now.files context.now.query (segment.now ∷ [])
-        opened.old opened.new (cond yes 1 0)) }
-    ensures stopped { OnErr result (StoppedTold
+        context.now.names context.now.files context.now.query (p ∷ [])
+        opened.old opened.new (cond yes 1 0))) }
+    ensures stopped { OnErr result (OfLoaded context.now.query segment.now (λ p. StoppedTold
         (W.halts work.old work.new context.now.names context.now.query) (D.state disk.old).seen
-        context.now.names context.now.files context.now.query (segment.now ∷ [])
-        opened.old opened.new) }
+        context.now.names context.now.files context.now.query (p ∷ [])
+        opened.old opened.new)) }
 
     // causes
     ensures damaged { IsErrOf result SearchRefusal.Damaged → W.stands work.old context.now.names
-        → NoneTold (D.state disk.old).seen context.now.names context.now.files
-        (segment.now ∷ []) }
+        → OfLoaded context.now.query segment.now (λ p. NoneTold (D.state disk.old).seen
+        context.now.names context.now.files (p ∷ [])) }
     ensures disk_counts { CountsOf SearchRefusal.DiskFault
         (D.state disk.old).faults (D.state disk.new).faults result }
     ensures sink_counts { CountsOf SearchRefusal.SinkFault
@@ -79,36 +78,10 @@ fn search_segment<D: Disk, W: TakesPages, L: Ledger>(
         return Ok(true);
     }
     let name = file.name.as_slice();
-    let number = segment.head.first + 1;
+    let number = segment.place.head.first + 1;
     let label = Label { name, number };
     read_pages(context, held, label, pages, disk, work, room)?;
     Ok(true)
-}
-
-// Loads the head of a segment.
-fn load<D: Disk>(
-    alloc: Global,
-    disk: &mut D,
-    front: &SegmentFront,
-) -> Result<SegmentPlace, SearchRefusal>
-    // what stays
-    ensures rests { Rests (D.state disk.old) (D.state disk.new) }
-    ensures reads { ReadsOnly front.now.payload (head_length (fixed_in front.now))
-        (D.state disk.old) (D.state disk.new) }
-
-    // by the answer
-    ensures front { IfOk result (λ p. front_of_place p ≡ front.now) }
-    ensures loaded { IfOk result (λ p. OfFront (D.state disk.old).seen front.now (λ q. p ≡ q)) }
-
-    // causes
-    ensures damaged { IsErrOf result SearchRefusal.Damaged
-        → OfFront (D.state disk.old).seen front.now (λ _. ⊥) }
-    ensures counts { CountsOf SearchRefusal.DiskFault
-        (D.state disk.old).faults (D.state disk.new).faults result }
-    ensures sink { ¬ IsErrOf result SearchRefusal.SinkFault }
-{
-    let segment = load_segment(alloc, disk, front)?;
-    Ok(segment)
 }
 
 /// Searches a segment by its front, and tells whether it was opened. One that is out of the range is not
@@ -160,7 +133,7 @@ fn visit_segment<D: Disk, W: TakesPages, L: Ledger>(
     if context.is_outside(front) {
         return Ok(false);
     }
-    let segment = match load(alloc, disk, front) {
+    let segment = match load_head(alloc, context, disk, front) {
         Ok(segment) => segment,
         // An output that fails too would be a second fault.
         Err(SearchRefusal::DiskFault) => return Err(SearchRefusal::DiskFault),

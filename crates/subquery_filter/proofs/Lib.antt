@@ -21,3 +21,4 @@ mod AloneLemmas
 mod ClosedLemmas
 mod BitLemmas
 pub mod HeadLemmas
+pub mod TypesLemmas

@@ -6,5 +6,6 @@ pub mod NumberText
 pub mod Filter
 pub mod Page
 pub mod Found
+pub mod ByTypes
 pub mod StepsFilter
 pub mod StepsKnown

@@ -68,7 +68,7 @@ pub struct Filter {
     /// The bits of the words.
     pub(crate) marks: WordMarks,
     /// The bits that words may bring.
-    brought: u8,
+    pub(crate) brought: u8,
     /// The bits that numbers may bring.
     numbers: u8,
     /// What is told of numbers by their words.
@@ -704,7 +704,7 @@ impl Filter {
 
     /// Whether a row of one of these log types may match, whose stamp has these runs, and whose
     /// stamp and words bring these bits.
-    fn some_may(&self, types: &[u32], runs: u8, stamped: u8, brought: u8) -> bool
+    pub(crate) fn some_may(&self, types: &[u32], runs: u8, stamped: u8, brought: u8) -> bool
         ensures { IsFalse result → (t : ℕ) → Contains types.now t
             → IsShut self.now runs stamped brought t }
     {
@@ -717,7 +717,7 @@ impl Filter {
     }
 
     /// The bits that the stamps of a segment may bring, by its least and its greatest moment.
-    fn stamps_of(&self, head: &Head) -> u8
+    pub(crate) fn stamps_of(&self, head: &Head) -> u8
         ensures { StampsBring self.now head.now result }
     {
         let stamps = self.stamps.as_slice();
@@ -729,7 +729,7 @@ impl Filter {
     }
 
     /// The bits of the runs that the stamps of a segment may have.
-    fn stamped_runs(&self, head: &Head) -> u8
+    pub(crate) fn stamped_runs(&self, head: &Head) -> u8
         ensures { RunsBring self.now head.now result }
     {
         if !head.stamped {

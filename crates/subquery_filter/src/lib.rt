@@ -8,6 +8,7 @@ mod accepting;
 mod alone;
 mod beside;
 mod bits;
+mod by_types;
 mod filter;
 mod known;
 mod known_names;

@@ -1,15 +1,23 @@
-use Rattle.std.proofs.Common.{rules, refl}
-use Rattle.search_walk.proofs.SegmentLemmas.{file_none, first_none, open_none}
+use Rattle.std.proofs.Common.{rules, refl, arith}
+use Rattle.search_walk.proofs.LoadedLemmas.{loaded_no_file, loaded_no_first, loaded_no_pages, loaded_no_room, loaded_opened}
 use Rattle.search_walk.proofs.opening.open_segment.Goals as goal
 
 pub returns-in_err-file-clause-none : goal.returns-in_err-file-clause-none
-returns-in_err-file-clause-none g c = λ _ seen n. file_none seen n c.args.files.now c.args.segment.now (search rules)
+returns-in_err-file-clause-none g c = λ _ q. loaded_no_file q c.args.segment.now c.args.files.now (search rules)
 
-pub returns-then-segment-gt-MAX_MESSAGES-clause-none : goal.returns-then-segment-gt-MAX_MESSAGES-clause-none
-returns-then-segment-gt-MAX_MESSAGES-clause-none g c = λ _ seen n. first_none seen n c.args.files.now c.args.segment.now (search rules)
+pub returns-then-place-gt-MAX_MESSAGES-clause-none : goal.returns-then-place-gt-MAX_MESSAGES-clause-none
+returns-then-place-gt-MAX_MESSAGES-clause-none g c = λ _ q. loaded_no_first q c.args.segment.now c.args.files.now (search rules)
+
+pub returns-in_err-shortened-clause-none : goal.returns-in_err-shortened-clause-none
+returns-in_err-shortened-clause-none g c = λ _ q. loaded_no_room q c.args.segment.now c.args.files.now (c.in_err-shortened.ensures.none refl)
 
 pub returns-in_err-pages-clause-none : goal.returns-in_err-pages-clause-none
-returns-in_err-pages-clause-none g c = λ _ seen n. open_none seen n c.args.files.now c.args.segment.now (c.in_err-pages.ensures.none refl)
+returns-in_err-pages-clause-none g c = λ _ q.
+    let e = c.in_ok-shortened.ensures.some in
+    loaded_no_pages q c.args.segment.now c.args.files.now _ _ e.0 e.1 (c.in_err-pages.ensures.none refl)
 
 pub returns-clause-some : goal.returns-clause-some
-returns-clause-some g c = record { file = c.in_ok-file.ensures; first = search rules; starts = c.in_ok-pages.ensures.first; holds = c.in_ok-pages.ensures.holds; ticked = c.in_ok-pages.ensures.ticked }
+returns-clause-some g c = λ q.
+    let e = c.in_ok-shortened.ensures.some in
+    let p = c.in_ok-pages.ensures in
+    loaded_opened q c.args.segment.now c.args.files.now _ _ _ _ _ _ e.0 e.1 c.in_ok-file.ensures p.first p.holds p.ticked

@@ -23,7 +23,7 @@ returns-then-is_outside-clause-done g c =
     c.wide_is_wider.ensures.wider c.barren_has_no_match.ensures c.is_outside.ensures.searched (c.is_outside.ensures.told (search rules))
 
 pub returns-in-Err-DiskFault-clause-reads : goal.returns-in-Err-DiskFault-clause-reads
-returns-in-Err-DiskFault-clause-reads g c = head_reads _ c.args.context.now.names c.args.context.now.files c.args.context.now.query c.args.front.now (g.D.Disk.state c.args.disk.now) (g.D.Disk.state c.load.new.disk) c.load.ensures.reads
+returns-in-Err-DiskFault-clause-reads g c = head_reads _ c.args.context.now.names c.args.context.now.files c.args.context.now.query c.args.front.now (g.D.Disk.state c.args.disk.now) (g.D.Disk.state c.load_head.new.disk) c.load_head.ensures.reads
 
 pub returns-in-Err-DiskFault-clause-stopped : goal.returns-in-Err-DiskFault-clause-stopped
 returns-in-Err-DiskFault-clause-stopped g c =
@@ -33,7 +33,7 @@ returns-in-Err-DiskFault-clause-stopped g c =
     halted_stops (g.W.TakesPages.halts w w n q) _ n c.args.context.now.files q (c.args.front.now ∷ []) _ _ (λ all. g.met.W.TakesPages.stops_within w w n q [] all (g.met.W.TakesPages.stops_here w n q)) refl
 
 pub returns-in_err-finish-in-Err-clause-reads : goal.returns-in_err-finish-in-Err-clause-reads
-returns-in_err-finish-in-Err-clause-reads g c = head_reads _ c.args.context.now.names c.args.context.now.files c.args.context.now.query c.args.front.now (g.D.Disk.state c.args.disk.now) (g.D.Disk.state c.load.new.disk) c.load.ensures.reads
+returns-in_err-finish-in-Err-clause-reads g c = head_reads _ c.args.context.now.names c.args.context.now.files c.args.context.now.query c.args.front.now (g.D.Disk.state c.args.disk.now) (g.D.Disk.state c.load_head.new.disk) c.load_head.ensures.reads
 
 pub returns-in_err-finish-in-Err-clause-stopped : goal.returns-in_err-finish-in-Err-clause-stopped
 returns-in_err-finish-in-Err-clause-stopped g c =
@@ -48,7 +48,7 @@ pub returns-in_err-finish-in-Err-clause-damaged : goal.returns-in_err-finish-in-
 returns-in_err-finish-in-Err-clause-damaged g c = λ is stands. absurd (c.in_err-finish-in-Err.ensures.damaged (search rules) stands)
 
 pub returns-in-Err-clause-reads : goal.returns-in-Err-clause-reads
-returns-in-Err-clause-reads g c = head_reads _ c.args.context.now.names c.args.context.now.files c.args.context.now.query c.args.front.now (g.D.Disk.state c.args.disk.now) (g.D.Disk.state c.load.new.disk) c.load.ensures.reads
+returns-in-Err-clause-reads g c = head_reads _ c.args.context.now.names c.args.context.now.files c.args.context.now.query c.args.front.now (g.D.Disk.state c.args.disk.now) (g.D.Disk.state c.load_head.new.disk) c.load_head.ensures.reads
 
 pub returns-in-Err-clause-stopped : goal.returns-in-Err-clause-stopped
 returns-in-Err-clause-stopped g c =
@@ -60,18 +60,18 @@ returns-in-Err-clause-stopped g c =
     (λ all. g.met.W.TakesPages.stops_within w d n q [] all (g.met.W.TakesPages.stops_behind w d d n q [] [] c.in_ok-finish-in-Err.ensures.done (g.met.W.TakesPages.stops_here d n q))) refl
 
 pub returns-in-Err-clause-damaged : goal.returns-in-Err-clause-damaged
-returns-in-Err-clause-damaged g c = λ is stands. loaded_none _ c.args.context.now.names c.args.context.now.files c.args.front.now (c.load.ensures.damaged (search rules))
+returns-in-Err-clause-damaged g c = λ is stands. loaded_none _ c.args.context.now.names c.args.context.now.files c.args.front.now (c.load_head.ensures.damaged (search rules))
 
 pub search_segment-requires-clause-told : goal.search_segment-requires-clause-told
-search_segment-requires-clause-told g c = subst (λ s. s ≡ c.args.context.now.names.told) (sym c.load.ensures.rests.seen) c.requires.told
+search_segment-requires-clause-told g c = subst (λ s. s ≡ c.args.context.now.names.told) (sym c.load_head.ensures.rests.seen) c.requires.told
 
 pub returns-clause-rests : goal.returns-clause-rests
-returns-clause-rests g c = rests_on _ (g.D.Disk.state c.load.new.disk) _ c.load.ensures.rests c.search_segment.ensures.rests
+returns-clause-rests g c = rests_on _ (g.D.Disk.state c.load_head.new.disk) _ c.load_head.ensures.rests c.search_segment.ensures.rests
 
 pub returns-clause-reads : goal.returns-clause-reads
 returns-clause-reads g c =
-    segment_reads c.args.context.now.names c.args.context.now.files c.args.context.now.query c.args.front.now c.in-Ok.segment (g.D.Disk.state c.args.disk.now) (g.D.Disk.state c.load.new.disk) (g.D.Disk.state c.search_segment.new.disk)
-    c.load.ensures.rests.seen c.in-Ok.ensures.loaded c.load.ensures.reads c.search_segment.ensures.reads
+    segment_reads c.args.context.now.names c.args.context.now.files c.args.context.now.query c.args.front.now c.in-Ok.segment (g.D.Disk.state c.args.disk.now) (g.D.Disk.state c.load_head.new.disk) (g.D.Disk.state c.search_segment.new.disk)
+    c.load_head.ensures.rests.seen c.in-Ok.ensures.loaded c.load_head.ensures.reads c.search_segment.ensures.reads
 
 pub returns-clause-done : goal.returns-clause-done
 returns-clause-done g c =
@@ -79,20 +79,20 @@ returns-clause-done g c =
     let q = c.args.context.now.query in
     if_ok_to c.search_segment.result _ _
     (λ yes has.
-    later_all (g.D.Disk.state c.args.disk.now).seen (g.D.Disk.state c.load.new.disk).seen n c.args.context.now.files c.args.front.now c.in-Ok.segment
+    later_all (g.D.Disk.state c.args.disk.now).seen (g.D.Disk.state c.load_head.new.disk).seen n c.args.context.now.files c.args.context.now.query c.args.front.now c.in-Ok.segment
     (λ ps _ all. Searched (g.W.TakesPages.reaches c.args.work.now c.search_segment.new.work n q) n q ps all c.args.opened.now c.search_segment.new.opened (cond yes 1 0))
-    c.load.ensures.rests.seen c.in-Ok.ensures.loaded has) c.search_segment.ensures.done
+    c.load_head.ensures.rests.seen c.in-Ok.ensures.loaded has) c.search_segment.ensures.done
 
 pub returns-clause-stopped : goal.returns-clause-stopped
 returns-clause-stopped g c =
     let n : Named = c.args.context.now.names in
     let q = c.args.context.now.query in
     on_err_to c.search_segment.result _ _
-    (later_all (g.D.Disk.state c.args.disk.now).seen (g.D.Disk.state c.load.new.disk).seen n c.args.context.now.files c.args.front.now c.in-Ok.segment
+    (later_all (g.D.Disk.state c.args.disk.now).seen (g.D.Disk.state c.load_head.new.disk).seen n c.args.context.now.files c.args.context.now.query c.args.front.now c.in-Ok.segment
     (λ ps _ all. Stopped (g.W.TakesPages.halts c.args.work.now c.search_segment.new.work n q) n q ps all c.args.opened.now c.search_segment.new.opened)
-    c.load.ensures.rests.seen c.in-Ok.ensures.loaded) c.search_segment.ensures.stopped
+    c.load_head.ensures.rests.seen c.in-Ok.ensures.loaded) c.search_segment.ensures.stopped
 
 pub returns-clause-damaged : goal.returns-clause-damaged
 returns-clause-damaged g c = λ is stands.
-    later_all (g.D.Disk.state c.args.disk.now).seen (g.D.Disk.state c.load.new.disk).seen c.args.context.now.names c.args.context.now.files c.args.front.now c.in-Ok.segment (λ _ _ _. ⊥)
-    c.load.ensures.rests.seen c.in-Ok.ensures.loaded (c.search_segment.ensures.damaged is stands)
+    later_all (g.D.Disk.state c.args.disk.now).seen (g.D.Disk.state c.load_head.new.disk).seen c.args.context.now.names c.args.context.now.files c.args.context.now.query c.args.front.now c.in-Ok.segment (λ _ _ _. ⊥)
+    c.load_head.ensures.rests.seen c.in-Ok.ensures.loaded (c.search_segment.ensures.damaged is stands)

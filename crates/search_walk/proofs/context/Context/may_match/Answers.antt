@@ -1,13 +1,26 @@
-use Rattle.std.proofs.Common.{subst}
+use Rattle.std.proofs.Common.{subst, List, ℕ, rules}
 use Rattle.query_plan.specs.Pieces.{wide_pieces}
 use Rattle.subquery_filter.specs.Filter.{HasNoMatch}
 use Rattle.search_walk.specs.Held.{IsTold, Named, named}
+use Rattle.search_walk.specs.Loaded.{OfLoaded}
 use Rattle.search_walk.specs.StepsScope.{Scope}
+use Rattle.search_walk.proofs.LoadedLemmas.{spared_unmatched, whole_unmatched}
 use Rattle.search_walk.proofs.context.Context.may_match.Goals as goal
 
-pub returns : goal.returns
-returns g c = λ no told.
+pub returns-then-segment : goal.returns-then-segment
+returns-then-segment g c = λ no.
     let own = c.self.inside in
     let n : Named = named (g.D.Disk.state own.disk.value).seen own.held.value in
-    subst (λ (s : Scope). IsTold s.names → HasNoMatch (wide_pieces s.query.pattern) s.names.types s.names.words c.args.segment.now.head) c.self.view_is
-    (λ is_told. c.may_match.ensures no own.query.now.pattern n.types n.words c.self.invariant.searched (c.self.invariant.filtered is_told)) told
+    let segment = c.args.segment.now in
+    subst (λ (s : Scope). OfLoaded s.query segment (λ p. IsTold s.names → HasNoMatch (wide_pieces s.query.pattern) s.names.types s.names.words p.head)) c.self.view_is
+    (λ p is told. whole_unmatched n own.query.now segment (search rules) (c.may_match.ensures no own.query.now.pattern n.types n.words c.self.invariant.searched (c.self.invariant.filtered told)) p is)
+
+pub returns : goal.returns
+returns g c = λ no.
+    let own = c.self.inside in
+    let n : Named = named (g.D.Disk.state own.disk.value).seen own.held.value in
+    let segment = c.args.segment.now in
+    subst (λ (s : Scope). OfLoaded s.query segment (λ p. IsTold s.names → HasNoMatch (wide_pieces s.query.pattern) s.names.types s.names.words p.head)) c.self.view_is
+    (λ p is told.
+    spared_unmatched n own.query.now segment (search rules)
+    (λ (words : List ℕ). c.may_match_types.ensures no own.query.now.pattern n.types n.words c.self.invariant.searched (c.self.invariant.filtered told) words) p is)
