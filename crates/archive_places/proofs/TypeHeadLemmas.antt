@@ -7,7 +7,6 @@ use Rattle.std.specs.Int.RustNames.{FitsSigned}
 use Rattle.std.proofs.lemmas.Int.{to_z-of_z}
 use Rattle.std.proofs.lemmas.List.{append_assoc, drop_at, take-take, take_at}
 use Rattle.record_format.specs.Lists.{four_bytes}
-use Rattle.record_format.proofs.ListLemmas.{length-four_bytes}
 use Rattle.segment_format.specs.declared.head.Head.{Head}
 use Rattle.segment_format.specs.Layout.{IsHead, IsNumberSet, fixed_bytes, fixed_of, head_bytes, head_length}
 use Rattle.segment_format.proofs.FixedLemmas.{length-fixed_bytes}
@@ -16,7 +15,7 @@ use Rattle.segment_format.proofs.UniqueLemmas.{column_once, numbers_tell}
 use Rattle.segment_pages.specs.declared.refusal.PageRefusal.{PageRefusal}
 use Rattle.archive_open.specs.declared.segments.SegmentPlace.{SegmentPlace}
 use Rattle.archive_places.specs.declared.front.SegmentFront.{SegmentFront}
-use Rattle.archive_places.specs.Fronts.{fixed_in, front_of_place}
+use Rattle.archive_places.specs.Fronts.{front_of_place}
 use Rattle.archive_places.specs.Heads.{HasHeadAt, OfFront}
 use Rattle.archive_places.specs.TypeHeads.{types_bytes, without_words}
 

@@ -1,33 +1,29 @@
 -- What is told of a segment by what was loaded of it.
 use Rattle.std.proofs.Common.{◌≡◌, ◌≢◌, inl, inr, ℕ, ◌+◌, ◌-◌, ◌*◌, ◌^◌, ◌<◌, ◌≤◌, Bool, List, [], ◌∷◌, ◌++◌, length, take, drop, Option, Some, None, refl, sym, ◌∙◌, ap, subst, arith, length-append, take-append-drop}
-use Rattle.std.specs.Prelude.{◌⊎◌, ◌↔◌, IsTrue, slice_get}
+use Rattle.std.specs.Prelude.{slice_get}
 use Rattle.std.proofs.lemmas.List.{append_assoc, drop-drop, length-take, length-drop}
 use Rattle.column_store.specs.declared.row.Row.{Row}
-use Rattle.column_store.specs.declared.range.Range.{Range}
 use Rattle.segment_format.specs.declared.head.Head.{Head}
-use Rattle.segment_format.specs.Layout.{IsHead, fixed_of, head_length}
+use Rattle.segment_format.specs.Layout.{fixed_of, head_length}
 use Rattle.segment_format.specs.Pages.{first_page}
-use Rattle.segment_format.specs.Spelled.{AreColumnsIn, HoldsRows}
+use Rattle.segment_format.specs.Spelled.{AreColumnsIn}
 use Rattle.segment_pages.specs.Paged.{HoldsLeft, HoldsSegment, Paged, StandsAt, columns_size, paged_first}
 use Rattle.archive_meaning.specs.declared.TheConstants.{MAX_MESSAGES}
 use Rattle.archive_open.specs.declared.files.FileEntry.{FileEntry}
 use Rattle.archive_open.specs.declared.segments.SegmentPlace.{SegmentPlace}
 use Rattle.archive_places.specs.declared.front.SegmentFront.{SegmentFront}
 use Rattle.archive_places.specs.Fronts.{front_of_place}
-use Rattle.archive_places.specs.Heads.{HasHeadAt, OfFront}
+use Rattle.archive_places.specs.Heads.{OfFront}
 use Rattle.archive_places.specs.TypeHeads.{without_words}
 use Rattle.log_seams.specs.Disk.{DiskState, ReadsOnly}
-use Rattle.query_plan.specs.declared.pieces.Piece.{Piece}
 use Rattle.query_plan.specs.Pieces.{wide_pieces}
-use Rattle.plain_list.specs.Texts.{AreDistinct}
 use Rattle.subquery_filter.specs.ByTypes.{NeedsNoVariable, with_words}
 use Rattle.subquery_filter.specs.Filter.{HasNoMatch}
 use Rattle.subquery_filter.proofs.TypesLemmas.{barren_still, head_without}
-use Rattle.search_meaning.specs.Opened.{IsBarrenFor}
 use Rattle.search_meaning.specs.Scan.{Asked}
 use Rattle.search_walk.specs.declared.loaded.LoadedSegment.{LoadedSegment}
-use Rattle.search_walk.specs.Held.{IsTold, Named, OfSegments}
-use Rattle.search_walk.specs.Loaded.{IsLoaded, IsSpared, IsWhole, OfLoaded}
+use Rattle.search_walk.specs.Held.{Named, OfSegments}
+use Rattle.search_walk.specs.Loaded.{IsLoaded, OfLoaded}
 use Rattle.search_walk.specs.Opened.{IsOpened, columns_at}
 use Rattle.search_walk.proofs.SegmentLemmas.{Tells, file_none, first_none, open_none}
 

@@ -1,5 +1,5 @@
 -- Segments whose heads are loaded, with their lists of words or without them.
-use Rattle.std.specs.Prelude.{◌≡◌, ◌⊎◌, ℕ, length}
+use Rattle.std.specs.Prelude.{◌≡◌, ◌⊎◌, length}
 use Rattle.query_plan.specs.Pieces.{wide_pieces}
 use Rattle.subquery_filter.specs.ByTypes.{NeedsNoVariable}
 use Rattle.archive_open.specs.declared.segments.SegmentPlace.{SegmentPlace}

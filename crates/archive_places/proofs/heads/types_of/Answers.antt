@@ -1,4 +1,4 @@
-use Rattle.std.proofs.Common.{sym, ◌∙◌, rules}
+use Rattle.std.proofs.Common.{sym, ◌∙◌}
 use Rattle.std.proofs.lemmas.Result.{err_from_is_err_and}
 use Rattle.archive_places.proofs.TypeHeadLemmas.{no_types, typed_same}
 use Rattle.archive_places.proofs.heads.types_of.Goals as goal

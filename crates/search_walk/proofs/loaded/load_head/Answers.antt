@@ -1,5 +1,4 @@
 use Rattle.std.proofs.Common.{arith, refl, rules}
-use Rattle.search_walk.specs.declared.loaded.LoadedSegment.{LoadedSegment}
 use Rattle.search_walk.proofs.LoadedLemmas.{reads_more, spared_loaded, whole_loaded}
 use Rattle.search_walk.proofs.loaded.load_head.Goals as goal
 
@@ -11,7 +10,7 @@ returns-then-spares_words-clause-reads g c = reads_more c.args.front.now.payload
 
 pub returns-then-spares_words-clause-loaded : goal.returns-then-spares_words-clause-loaded
 returns-then-spares_words-clause-loaded g c =
-    spared_loaded c.args.context.now.query _ c.args.front.now (record { place = c.in_ok-place-then-spares_words.place; unread = c.args.front.now.words }) (c.spares_words.ensures (search rules)) refl c.in_ok-place-then-spares_words.ensures.loaded
+    spared_loaded c.args.context.now.query _ c.args.front.now _ (c.spares_words.ensures (search rules)) refl c.in_ok-place-then-spares_words.ensures.loaded
 
 pub returns-clause-loaded : goal.returns-clause-loaded
-returns-clause-loaded g c = whole_loaded c.args.context.now.query _ c.args.front.now (record { place = c.in_ok-place.place; unread = 0 }) refl c.in_ok-place.ensures.loaded
+returns-clause-loaded g c = whole_loaded c.args.context.now.query _ c.args.front.now _ refl c.in_ok-place.ensures.loaded

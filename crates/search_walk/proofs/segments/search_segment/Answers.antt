@@ -1,4 +1,4 @@
-use Rattle.std.proofs.Common.{ap, rules, refl, ℕ, ◌+◌}
+use Rattle.std.proofs.Common.{ap, rules, ℕ, ◌+◌}
 use Rattle.search_walk.specs.Held.{Named}
 use Rattle.search_walk.proofs.AnswerLemmas.{on_err}
 use Rattle.search_walk.proofs.LoadedLemmas.{loaded_first}

@@ -1,6 +1,5 @@
 use Rattle.std.proofs.Common.{◌≡◌, ℕ, List, Bool, subst, true}
 use Rattle.std.specs.Prelude.{Some, slice_get}
-use Rattle.query_plan.specs.declared.pieces.Piece.{Piece}
 use Rattle.query_plan.specs.Pieces.{wide_pieces}
 use Rattle.subquery_filter.specs.ByTypes.{NeedsNoVariable}
 use Rattle.search_walk.specs.StepsScope.{Scope}
