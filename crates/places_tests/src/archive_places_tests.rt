@@ -195,7 +195,7 @@ fn the_read_of_a_head_may_fail(rt: HostRuntime) {
 }
 
 // The segment at an index without its words, read from a disk with these bytes, of which these calls fail.
-fn types_of(
+fn spared_of(
     alloc: Global,
     bytes: &[u8],
     fails: &[u64],
@@ -212,8 +212,8 @@ fn types_of(
 }
 
 // Whether it is the segment of a whole head but for the words.
-fn has_types(alloc: Global, index: usize) -> Result<bool, PageRefusal> {
-    let place = types_of(alloc, &ARCHIVE, &[], index)?;
+fn is_spared(alloc: Global, index: usize) -> Result<bool, PageRefusal> {
+    let place = spared_of(alloc, &ARCHIVE, &[], index)?;
     let whole = load(alloc, &ARCHIVE, &[], index)?;
     let same = place.payload == whole.payload && place.length == whole.length;
     let head = &place.head;
@@ -221,30 +221,30 @@ fn has_types(alloc: Global, index: usize) -> Result<bool, PageRefusal> {
     Ok(same && listed && head.rows == whole.head.rows && head.first == whole.head.first)
 }
 
-fn have_types(alloc: Global) -> Result<bool, PageRefusal> {
-    Ok(has_types(alloc, 0)? && has_types(alloc, 1)?)
+fn are_spared(alloc: Global) -> Result<bool, PageRefusal> {
+    Ok(is_spared(alloc, 0)? && is_spared(alloc, 1)?)
 }
 
 #[test]
 fn heads_are_loaded_without_words(rt: HostRuntime) {
-    assert!(rt; have_types(rt.alloc()) == Ok(true));
+    assert!(rt; are_spared(rt.alloc()) == Ok(true));
 }
 
 // Why the first segment is not loaded without its words.
-fn types_refusal(alloc: Global, bytes: &[u8], fails: &[u64]) -> Option<PageRefusal> {
-    types_of(alloc, bytes, fails, 0).err()
+fn spared_refusal(alloc: Global, bytes: &[u8], fails: &[u64]) -> Option<PageRefusal> {
+    spared_of(alloc, bytes, fails, 0).err()
 }
 
-fn types_break_off(alloc: Global) -> bool {
-    types_refusal(alloc, &ARCHIVE[..178], &[]) == Some(PageRefusal::Damaged)
-        && types_refusal(alloc, &ARCHIVE[..179], &[]) == None
-        && types_refusal(alloc, &ARCHIVE, &[0]) == Some(PageRefusal::DiskFault)
-        && types_refusal(alloc, &ARCHIVE, &[1]) == None
+fn spared_break_off(alloc: Global) -> bool {
+    spared_refusal(alloc, &ARCHIVE[..178], &[]) == Some(PageRefusal::Damaged)
+        && spared_refusal(alloc, &ARCHIVE[..179], &[]) == None
+        && spared_refusal(alloc, &ARCHIVE, &[0]) == Some(PageRefusal::DiskFault)
+        && spared_refusal(alloc, &ARCHIVE, &[1]) == None
 }
 
 #[test]
 fn log_types_that_break_off_are_damaged(rt: HostRuntime) {
-    assert!(rt; types_break_off(rt.alloc()));
+    assert!(rt; spared_break_off(rt.alloc()));
 }
 
 // The place of the damage that opening tells.
