@@ -45,9 +45,9 @@ one_list xs ys is_xs is_ys same =
     let long : length xs ≡ length ys = omega (arith, ap (λ (l : List ℕ). length l) same, length_numbers xs, length_numbers ys) in
     column_once 4 four_bytes (λ n. n < 2 ^ 32) numbers_tell xs ys is_xs.fit is_ys.fit long same
 
--- a place by a front, with these log types and moments, and no words
-abbrev pub typed_with : SegmentFront → List ℕ → ℤ → ℤ → SegmentPlace
-typed_with f types least greatest = record {
+-- a place by a front, with these lists and moments
+abbrev pub typed_with : SegmentFront → List ℕ → List ℕ → ℤ → ℤ → SegmentPlace
+typed_with f types words least greatest = record {
   at = f.at;
   payload = f.payload;
   length = f.length;
@@ -61,18 +61,18 @@ typed_with f types least greatest = record {
     least = least;
     greatest = greatest;
     types = types;
-    words = [];
+    words = words;
     variables = f.variables;
   };
 }
 
-pub typed_same : (f : SegmentFront) (types : List ℕ) (q : SegmentPlace) → front_of_place q ≡ f → IsHead q.head → IsNumberSet types → flat_map four_bytes types ≡ flat_map four_bytes q.head.types
-    → typed_with f types (to_z w64 (of_z w64 f.least)) (to_z w64 (of_z w64 f.greatest)) ≡ without_words q
-typed_same f types q same fits is_types spelled =
+pub typed_same : (f : SegmentFront) (types words : List ℕ) (q : SegmentPlace) → words ≡ [] → front_of_place q ≡ f → IsHead q.head → IsNumberSet types → flat_map four_bytes types ≡ flat_map four_bytes q.head.types
+    → typed_with f types words (to_z w64 (of_z w64 f.least)) (to_z w64 (of_z w64 f.greatest)) ≡ without_words q
+typed_same f types words q none same fits is_types spelled =
     let least : to_z w64 (of_z w64 f.least) ≡ f.least = to_z-of_z w64 f.least (subst (λ (x : SegmentFront). FitsSigned w64 x.least) same fits.fixed.least) in
     let greatest : to_z w64 (of_z w64 f.greatest) ≡ f.greatest = to_z-of_z w64 f.greatest (subst (λ (x : SegmentFront). FitsSigned w64 x.greatest) same fits.fixed.greatest) in
-    ap₂ (λ (a b : ℤ). typed_with f types a b) least greatest ∙ ap (λ (l : List ℕ). typed_with f l f.least f.greatest) (one_list types q.head.types is_types fits.types spelled)
-    ∙ ap (λ (x : SegmentFront). typed_with x q.head.types x.least x.greatest) (sym same)
+    ap₂ (λ (a b : ℤ). typed_with f types words a b) least greatest ∙ ap (λ (l : List ℕ). typed_with f types l f.least f.greatest) none ∙ ap (λ (l : List ℕ). typed_with f l [] f.least f.greatest) (one_list types q.head.types is_types fits.types spelled)
+    ∙ ap (λ (x : SegmentFront). typed_with x q.head.types [] x.least x.greatest) (sym same)
 
 -- ---- the same of an answer
 

@@ -146,6 +146,8 @@ fn types_of(alloc: Global, front: &SegmentFront, bytes: &[u8]) -> Result<Segment
         → front_of_place q ≡ front.now → IsHead q.head → bytes.now ≢ types_bytes q.head }
     ensures disk { ¬ IsErrOf result PageRefusal.DiskFault }
 {
+    // The count of log types fits its type.
+    let SegmentFront { types: _types, .. } = *front;
     let (_, listed) = bytes.split_at(FIXED_LEN as usize);
     let types = list_in(alloc, listed)?;
     Ok(SegmentPlace {

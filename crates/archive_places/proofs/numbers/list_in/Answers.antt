@@ -5,7 +5,7 @@ use Rattle.record_format.proofs.ListLemmas.{length-four_bytes}
 use Rattle.segment_format.proofs.UniqueLemmas.{numbers_tell, length_column, column_once}
 use Rattle.archive_places.proofs.numbers.list_in.Goals as goal
 
-pub returns-else-rises-clause-damaged : goal.returns-else-rises-clause-malformed
+pub returns-else-rises-clause-damaged : goal.returns-else-rises-clause-damaged
 returns-else-rises-clause-damaged c = λ _ ns is e.
     let numbers : List ℕ = c.fill_numbers.new.out.items in
     let whole : length c.args.bytes.now ≡ 4 * length ns = ap (λ (l : List ℕ). length l) e ∙ length_column 4 four_bytes length-four_bytes ns in
