@@ -31,11 +31,11 @@ use Rattle.search_walk.proofs.SegmentLemmas.{Tells, file_none, first_none, open_
 
 pub loaded_file : (q : Asked) (s : LoadedSegment) (p : SegmentPlace) → IsLoaded q s p → s.place.head.file ≡ p.head.file
 loaded_file q s p (inl (same, zero_of)) = ap (λ (x : SegmentPlace). x.head.file) same
-loaded_file q s p (inr (none, same, count)) = ap (λ (x : SegmentPlace). x.head.file) same
+loaded_file q s p (inr (none, (same, count))) = ap (λ (x : SegmentPlace). x.head.file) same
 
 pub loaded_first : (q : Asked) (s : LoadedSegment) (p : SegmentPlace) → IsLoaded q s p → s.place.head.first ≡ p.head.first
 loaded_first q s p (inl (same, zero_of)) = ap (λ (x : SegmentPlace). x.head.first) same
-loaded_first q s p (inr (none, same, count)) = ap (λ (x : SegmentPlace). x.head.first) same
+loaded_first q s p (inr (none, (same, count))) = ap (λ (x : SegmentPlace). x.head.first) same
 
 -- ---- barren segments
 
@@ -48,7 +48,7 @@ spared_tells n q p b none tells told is_head distinct =
 
 pub loaded_tells : (n : Named) (q : Asked) (s : LoadedSegment) (b : Bool) → Tells n q s.place b → OfLoaded q s (λ p. Tells n q p b)
 loaded_tells n q s b tells p (inl (same, zero_of)) = subst (λ (x : SegmentPlace). Tells n q x b) same tells
-loaded_tells n q s b tells p (inr (none, same, count)) = spared_tells n q p b none (subst (λ (x : SegmentPlace). Tells n q x b) same tells)
+loaded_tells n q s b tells p (inr (none, (same, count))) = spared_tells n q p b none (subst (λ (x : SegmentPlace). Tells n q x b) same tells)
 
 -- ---- segments that cannot match
 
@@ -60,7 +60,7 @@ no_list (w ∷ ws) none = absurd (omega (arith, none))
 pub whole_unmatched : (n : Named) (q : Asked) (s : LoadedSegment) → s.unread ≡ 0 → HasNoMatch (wide_pieces q.pattern) n.types n.words s.place.head
     → OfLoaded q s (λ p. HasNoMatch (wide_pieces q.pattern) n.types n.words p.head)
 whole_unmatched n q s read unmatched p (inl (same, zero_of)) = subst (λ (x : SegmentPlace). HasNoMatch (wide_pieces q.pattern) n.types n.words x.head) same unmatched
-whole_unmatched n q s read unmatched p (inr (none, same, count)) =
+whole_unmatched n q s read unmatched p (inr (none, (same, count))) =
     let empty : p.head.words ≡ [] = no_list p.head.words (sym count ∙ read) in
     let own : s.place.head ≡ with_words p.head.words p.head = ap (λ (x : SegmentPlace). x.head) same ∙ ap (λ (ws : List ℕ). with_words ws p.head) (sym empty) in
     subst (HasNoMatch (wide_pieces q.pattern) n.types n.words) own unmatched
@@ -68,7 +68,7 @@ whole_unmatched n q s read unmatched p (inr (none, same, count)) =
 pub spared_unmatched : (n : Named) (q : Asked) (s : LoadedSegment) → s.unread ≢ 0 → ((words : List ℕ) → HasNoMatch (wide_pieces q.pattern) n.types n.words (with_words words s.place.head))
     → OfLoaded q s (λ p. HasNoMatch (wide_pieces q.pattern) n.types n.words p.head)
 spared_unmatched n q s left unmatched p (inl (same, zero_of)) = absurd (left zero_of)
-spared_unmatched n q s left unmatched p (inr (none, same, count)) =
+spared_unmatched n q s left unmatched p (inr (none, (same, count))) =
     subst (λ (x : SegmentPlace). HasNoMatch (wide_pieces q.pattern) n.types n.words (with_words p.head.words x.head)) same (unmatched p.head.words)
 
 -- ---- opened segments
@@ -127,7 +127,7 @@ loaded_like q s at size later shorter p (inl (same, zero_of)) =
       columns = ap (λ (h : Head). columns_size (first_page h)) (sym head);
       holds = λ bytes rows holds. held_same p.payload at p.length size p.head s.place.head bytes rows place long head holds;
     }
-loaded_like q s at size later shorter p (inr (none, same, count)) =
+loaded_like q s at size later shorter p (inr (none, (same, count))) =
     let k : ℕ = length p.head.words in
     let head : with_words [] p.head ≡ s.place.head = ap (λ (x : SegmentPlace). x.head) (sym same) in
     let place : p.payload + 4 * k ≡ at = omega (arith, later, count, ap (λ (x : SegmentPlace). x.payload) same) in
@@ -172,7 +172,7 @@ loaded_no_room q s files short p is seen n = open_none seen n files p (λ bytes 
     no_room : (p : SegmentPlace) → IsLoaded q s p → (bytes : List ℕ) (rows : List Row) → HoldsSegment p.payload p.length p.head bytes rows → ⊥
     no_room p (inl (same, zero_of)) bytes rows holds =
         far p bytes rows holds (omega (arith, zero_of)) (ap (λ (x : SegmentPlace). x.payload) same) (ap (λ (x : SegmentPlace). x.length) same)
-    no_room p (inr (none, same, count)) bytes rows holds =
+    no_room p (inr (none, (same, count))) bytes rows holds =
         far p bytes rows holds (omega (arith, count)) (ap (λ (x : SegmentPlace). x.payload) same) (ap (λ (x : SegmentPlace). x.length) same)
 
 pub loaded_no_pages : (q : Asked) (s : LoadedSegment) (files : List FileEntry) (at size : ℕ) → at ≡ s.place.payload + 4 * s.unread → size + 4 * s.unread ≡ s.place.length → ((bytes : List ℕ) (rows : List Row) → ¬ HoldsSegment at size s.place.head bytes rows)
@@ -193,7 +193,7 @@ whole_loaded q told front s none = front_weaker told front (λ p. s.place ≡ p)
 pub spared_loaded : (q : Asked) (told : Option (List ℕ)) (front : SegmentFront) (s : LoadedSegment) → NeedsNoVariable (wide_pieces q.pattern) → s.unread ≡ front.words → OfFront told front (λ p. s.place ≡ without_words p)
     → OfFront told front (IsLoaded q s)
 spared_loaded q told front s none count =
-    front_weaker told front (λ p. s.place ≡ without_words p) (IsLoaded q s) (λ p is same. inr (none, same, count ∙ ap (λ (f : SegmentFront). f.words) (sym is)))
+    front_weaker told front (λ p. s.place ≡ without_words p) (IsLoaded q s) (λ p is same. inr (none, (same, count ∙ ap (λ (f : SegmentFront). f.words) (sym is))))
 
 pub reads_more : (at m n : ℕ) (old new : DiskState) → m ≤ n → ReadsOnly at m old new → ReadsOnly at n old new
 reads_more at m n old new le (inl same) = inl same

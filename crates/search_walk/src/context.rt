@@ -109,6 +109,7 @@ impl<'q, D: Disk> Context<'q, D> {
         ensures some { IfSome result (λ r. OfLoaded self.now.query segment.now (λ p.
             IsOpened self.now.files p r.0.now r.1 opened.old opened.new)) }
         ensures first { IfSome result (λ _. segment.now.place.head.first ≤ MAX_MESSAGES) }
+        ensures row { IfSome result (λ r. r.1.pages.row ≡ 0) }
         ensures none { IsNone result → OfLoaded self.now.query segment.now (λ p.
             (seen : Option (List ℕ)) (n : Named) → NoneTold seen n self.now.files (p ∷ [])) }
     {

@@ -46,6 +46,7 @@ pub(crate) fn open_segment<'a, L: Ledger>(
     ensures some { IfSome result (λ r. (q : Asked) → OfLoaded q segment.now (λ p.
         IsOpened files.now p r.0.now r.1 opened.old opened.new)) }
     ensures first { IfSome result (λ _. segment.now.place.head.first ≤ MAX_MESSAGES) }
+    ensures row { IfSome result (λ r. r.1.pages.row ≡ 0) }
     ensures none { IsNone result → (q : Asked) → OfLoaded q segment.now (λ p.
         (seen : Option (List ℕ)) (n : Named) → NoneTold seen n files.now (p ∷ [])) }
 {

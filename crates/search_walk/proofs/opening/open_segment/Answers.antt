@@ -1,4 +1,5 @@
-use Rattle.std.proofs.Common.{rules, refl, arith}
+use Rattle.std.proofs.Common.{ap, rules, refl, arith}
+use Rattle.segment_pages.specs.Paged.{Paged}
 use Rattle.search_walk.proofs.LoadedLemmas.{loaded_no_file, loaded_no_first, loaded_no_pages, loaded_no_room, loaded_opened}
 use Rattle.search_walk.proofs.opening.open_segment.Goals as goal
 
@@ -21,3 +22,6 @@ returns-clause-some g c = λ q.
     let e = c.in_ok-at.ensures.some in
     let p = c.in_ok-pages.ensures in
     loaded_opened q c.args.segment.now c.args.files.now _ _ _ _ _ _ (omega (arith, e.0, c.from.ensures)) (omega (arith, e.1, c.from.ensures)) c.in_ok-file.ensures p.first p.holds p.ticked
+
+pub returns-clause-row : goal.returns-clause-row
+returns-clause-row g c = ap (λ (x : Paged). x.pages.row) c.in_ok-pages.ensures.first

@@ -7,8 +7,8 @@ use Rattle.search_walk.specs.StepsScope.{Scope}
 use Rattle.search_walk.proofs.LoadedLemmas.{spared_unmatched, whole_unmatched}
 use Rattle.search_walk.proofs.context.Context.may_match.Goals as goal
 
-pub returns-then-segment : goal.returns-then-segment
-returns-then-segment g c = λ no.
+pub returns-then-segment-eq0 : goal.returns-then-segment-eq0
+returns-then-segment-eq0 g c = λ no.
     let own = c.self.inside in
     let n : Named = named (g.D.Disk.state own.disk.value).seen own.held.value in
     let segment = c.args.segment.now in
