@@ -411,8 +411,8 @@ fn grown(
     Ok(bytes)
 }
 
-/// A pattern, what is printed of `NUMBERS` where the head's words do not rise, and whether that is told: their
-/// list is read only where some word brings a token of the pattern.
+/// A pattern, what is printed of `NUMBERS` where the head's words do not rise, and whether that is
+/// told: their list is read only where some word brings a token of the pattern.
 const OF_WORDS: &[(&[u8], &[u8], bool)] = &[
     (b"53", b"a.log:1:12534\n", false),
     (b"12*34", b"", true),
