@@ -64,7 +64,7 @@ use Rattle.archive_merge.specs.declared.merger.Stopped.{Stopped}
 use Rattle.archive_merge.specs.Behind.{HasStored, done_of, needed_of, IsMovedFile, IsNewIn, IsOfFiles, MayBegin, OnlyRead, SecondView, second_by, HasRun, HasStopCause, HasStopped, IsDone, old_texts, places_for}
 use Rattle.archive_merge.specs.Files.{AreCutAs, CameOver, IsNotDone}
 use Rattle.archive_merge.specs.Locked.{HasMovedOver, MayMoveAt}
-use Rattle.archive_merge.specs.Merger.{DidFile, MayMoveFile, MovesOn, PassesAdd, StaysRead, file_at, needed_in, passes_of, HasMoved, IsOneOf, IsReachedOf, IsStopFor, books_of}
+use Rattle.archive_merge.specs.Merger.{DidFile, MayMoveFile, MovesOn, PassesAdd, StaysRead, file_at, passes_of, HasMoved, IsOneOf, IsReachedOf, IsStopFor, books_of}
 use Rattle.archive_merge.specs.MergerLaws.{passes_in_is, passes_then, passes_wider}
 use Rattle.archive_merge.specs.Runs.{HoldRun, nothing_so_far, SoFar}
 use Rattle.archive_merge.specs.Taken.{texts_by}

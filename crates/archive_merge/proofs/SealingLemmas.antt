@@ -1,7 +1,7 @@
 -- What is in hand becomes the next segment.
 use Rattle.std.proofs.Common.{◌≡◌, ℕ, ◌<◌, ◌≤◌, ◌^◌, List, [], ◌∷◌, ◌++◌, All, arith, refl, suc, sym, ap, ◌∙◌, subst, length, length-append}
 use Rattle.std.specs.Prelude.{◌&&◌, Err, IfErr, Ok, Option, Result, false, is_some}
-use Rattle.std.specs.List.{Contains, flat_map}
+use Rattle.std.specs.List.{flat_map}
 use Rattle.log_seams.specs.Disk.{DiskState}
 use Rattle.turn_lock.specs.Words.{IsReady, number_of, seen}
 use Rattle.turn_lock.proofs.FrontLemmas.{prefix_length}

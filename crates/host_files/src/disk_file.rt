@@ -1,5 +1,5 @@
 //! A file as a disk. It tells no content, and counts one fault for each call that failed.
-ghost use Rattle.std.specs.Prelude.{◌≡◌, ◌≤◌, ◌+◌, ◌^◌, ◌↔◌, ◌⊎◌, length, None, IfOk, IsTrue};
+ghost use Rattle.std.specs.Prelude.{◌≡◌, ◌≤◌, ◌+◌, ◌^◌, ◌↔◌, ◌⊎◌, length, IfOk, IsTrue};
 ghost use Rattle.std.specs.IoError.{error_kind};
 ghost use Rattle.host_files.specs.Untold.{untold};
 

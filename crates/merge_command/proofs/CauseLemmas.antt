@@ -18,7 +18,7 @@ use Rattle.archive_meaning.specs.Spelled.{end_of}
 use Rattle.archive_open.specs.Kept.{Kept}
 use Rattle.archive_open.specs.Shown.{IsArchiveOf, Shown}
 use Rattle.archive_open.specs.declared.files.FileEntry.{FileEntry}
-use Rattle.ingest_meaning.specs.Dictionaries.{HasTextsBehind, IsFullBy, book_texts, header_limits, limit_of}
+use Rattle.ingest_meaning.specs.Dictionaries.{HasTextsBehind, IsFullBy, book_texts}
 use Rattle.ingest_meaning.specs.Room.{needed_behind}
 use Rattle.ingest_workers.specs.Ingested.{told_entries}
 use Rattle.archive_merge.specs.Behind.{AreOfBoth, IsFullByBoth, LackedRoom, SecondView, old_texts}

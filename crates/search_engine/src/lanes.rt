@@ -94,7 +94,8 @@ fn pass_words<P: Disk>(lanes: &mut [Lane<'_, P>], all: &mut HeldWords)
     requires well { All IsWell lanes.old }
     requires serves { ServesLanes P.state all.old lanes.old }
     ensures kept { lanes.new ≡ lanes.old }
-    ensures serves { (n : Named) → HaveNames P.state n lanes.old → Serves n all.old → Serves n all.new }
+    ensures serves { (n : Named) → HaveNames P.state n lanes.old
+        → Serves n all.old → Serves n all.new }
 {
     for lane in lanes.iter_mut() {
         lane.share_words(all);
@@ -106,7 +107,8 @@ pub(crate) fn share_all<P: Disk>(lanes: &mut [Lane<'_, P>], all: &mut HeldWords)
     requires well { All IsWell lanes.old }
     requires serves { ServesLanes P.state all.old lanes.old }
     ensures kept { lanes.new ≡ lanes.old }
-    ensures serves { (n : Named) → HaveNames P.state n lanes.old → Serves n all.old → Serves n all.new }
+    ensures serves { (n : Named) → HaveNames P.state n lanes.old
+        → Serves n all.old → Serves n all.new }
 {
     // What the later lanes have read the first ones get when it is passed on once more.
     pass_words(lanes, all);

@@ -21,7 +21,6 @@ use Rattle.archive_places.specs.declared.places.Places.{Places}
 use Rattle.archive_places.specs.Heads.{HasHeadAt}
 use Rattle.archive_places.specs.Laws.{HeadsStand, TypesStand, WordsStand}
 use Rattle.archive_places.specs.Opened.{ArePlacesOf, OpensPlaces}
-use Rattle.archive_places.specs.Words.{types_places_of, words_places_of}
 use Rattle.word_places.specs.declared.place.WordsPlace.{WordsPlace}
 use Rattle.word_places.specs.Held.{HeldNames, places_of, unread}
 use Rattle.search_walk.specs.Held.{Named, OfSegments, named, words_told}

@@ -94,7 +94,7 @@ fn rises(numbers: &[u32]) -> bool
 }
 
 /// The list that the bytes spell, and `Malformed` exactly where they spell none that is sorted.
-fn list_in(alloc: Global, bytes: &[u8]) -> Result<NumberList, FormatRefusal>
+pub fn list_in(alloc: Global, bytes: &[u8]) -> Result<NumberList, FormatRefusal>
     requires whole { length bytes.now % 4 ≡ 0 }
     requires few { length bytes.now < 4 * 2 ^ 32 }
     ensures is { IfOk result (λ ns. IsNumberSet ns) }

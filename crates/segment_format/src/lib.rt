@@ -15,8 +15,8 @@ mod sets;
 
 pub use ask::PageAsk;
 pub use columns::read_columns;
-pub use fixed::{FIXED_LEN, head_len};
-pub use head::{Head, read_head};
+pub use fixed::{FIXED_LEN, Fixed, head_len, read_fixed};
+pub use head::{Head, list_in, read_head};
 pub use laws::{
     columns_are_unique, heads_are_unique, pages_are_the_columns, segments_are_unique,
     segments_read_back,

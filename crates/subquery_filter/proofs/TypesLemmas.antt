@@ -1,6 +1,5 @@
 -- What the rules of barren segments tell without the lists of words.
 use Rattle.std.proofs.Common.{◌<◌, ◌^◌, ℕ, List, [], inl, inr, arith}
-use Rattle.std.specs.Prelude.{All}
 use Rattle.std.proofs.lemmas.List.Elements.{All-nil}
 use Rattle.column_store.specs.declared.range.Range.{Range}
 use Rattle.segment_format.specs.declared.head.Head.{Head}
