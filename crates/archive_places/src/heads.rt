@@ -102,14 +102,14 @@ fn segment_of(
     })
 }
 
-/// Reads the head of a segment with its two lists, by one read. Where the disk's bytes have a head with
-/// this front there, it is that one.
+/// Reads the head of a segment with its two lists, by one read. Where the disk's bytes have a head
+/// with this front there, it is that one.
 ///
 /// # Errors
 ///
-/// `DiskFault`, where the disk's count of faults rose; `Damaged`, where no head with this front stands
-/// there: where the disk ends within it, its fixed part is another, or a list does not rise; or
-/// `OutOfMemory`.
+/// `DiskFault`, where the disk's count of faults rose; `Damaged`, where no head with this front
+/// stands there: where the disk ends within it, its fixed part is another, or a list does not rise;
+/// or `OutOfMemory`.
 pub fn load_segment<D: Disk>(
     alloc: Global,
     disk: &mut D,
@@ -170,13 +170,14 @@ fn types_of(alloc: Global, front: &SegmentFront, bytes: &[u8]) -> Result<Segment
     })
 }
 
-/// Reads the head of a segment without its list of words, by one read: none is listed here. Where the
-/// disk's bytes have a head with this front there, it is that one but for its words.
+/// Reads the head of a segment without its list of words, by one read: none is listed here. Where
+/// the disk's bytes have a head with this front there, it is that one but for its words.
 ///
 /// # Errors
 ///
-/// `DiskFault`, where the disk's count of faults rose; `Damaged`, where no head with this front stands
-/// there: where the disk ends within its list of log types, or that does not rise; or `OutOfMemory`.
+/// `DiskFault`, where the disk's count of faults rose; `Damaged`, where no head with this front
+/// stands there: where the disk ends within its list of log types, or that does not rise; or
+/// `OutOfMemory`.
 pub fn load_types<D: Disk>(
     alloc: Global,
     disk: &mut D,

@@ -8,13 +8,14 @@ pub fn types_stand()
     ensures { TypesStand }
 {}
 
-/// Where the bytes of a disk stand for a journal, its words stand at the places of its records of words.
+/// Where the bytes of a disk stand for a journal, its words stand at the places of its records of
+/// words.
 pub fn words_stand()
     ensures { WordsStand }
 {}
 
-/// Where the bytes of a disk stand for a journal, the head of each of its segments stands at the front of
-/// the segment's payload.
+/// Where the bytes of a disk stand for a journal, the head of each of its segments stands at the
+/// front of the segment's payload.
 pub fn heads_stand()
     ensures { HeadsStand }
 {}

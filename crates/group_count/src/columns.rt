@@ -68,8 +68,8 @@ pub(crate) fn count_types<D: Disk>(
     Ok(())
 }
 
-/// Reads the patterns and moments of so many of the rows that are left, behind the first ones, and counts
-/// their minutes.
+/// Reads the patterns and moments of so many of the rows that are left, behind the first ones, and
+/// counts their minutes.
 fn count_run<D: Disk>(
     table: &mut MinuteTable,
     pages: &SegmentPages,

@@ -164,8 +164,8 @@ fn group_minutes<D: Disk, L: Ledger, M: Ledger>(
         (D.state disk.old).faults (D.state disk.new).faults result }
     ensures sink { ¬ IsErrOf result SearchRefusal.SinkFault }
 {
-    // The minutes of rows are those of the messages that they are the encodings of. From version 3 on
-    // moments count microseconds.
+    // The minutes of rows are those of the messages that they are the encodings of. From version 3
+    // on moments count microseconds.
     rows_have_keys();
     let table = MinuteTable::new(alloc, places.header.version >= 3);
     let mut counter = PageCounter::new(alloc, way, table);
@@ -217,17 +217,17 @@ fn group_found<D: Disk, L: Ledger, M: Ledger>(
 /// read, and the places those of the disk.
 ///
 /// Where the pattern is plain, with no `?` and at most
-/// [`MAX_OPEN_TOKENS`](query_plan::MAX_OPEN_TOKENS) open tokens, no message is expanded: each row is
-/// decided as it is stored. Otherwise `expanded` counts the messages in the range that the widened
-/// pattern matches.
+/// [`MAX_OPEN_TOKENS`](query_plan::MAX_OPEN_TOKENS) open tokens, no message is expanded: each row
+/// is decided as it is stored. Otherwise `expanded` counts the messages in the range that the
+/// widened pattern matches.
 ///
-/// Of a barren segment no column is read: its head tells that no message of it in the range matches. Of
-/// the others `opened` counts each.
+/// Of a barren segment no column is read: its head tells that no message of it in the range
+/// matches. Of the others `opened` counts each.
 ///
 /// # Errors
 ///
-/// `DiskFault`, where the count of faults of the disk rose; `Damaged`, where the disk's bytes are no
-/// archive; or `OutOfMemory`. There is no output, so `SinkFault` is none of its answers.
+/// `DiskFault`, where the count of faults of the disk rose; `Damaged`, where the disk's bytes are
+/// no archive; or `OutOfMemory`. There is no output, so `SinkFault` is none of its answers.
 pub fn group<D: Disk, L: Ledger, M: Ledger>(
     alloc: Global,
     places: Places,

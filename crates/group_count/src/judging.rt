@@ -30,9 +30,9 @@ fn judge_tried<N: Names>(plan: &Plan, names: &N, row: RowRef<'_>) -> Option<bool
 /// Whether a plain pattern matches the message of a row, by the row as it is stored; `None` only
 /// where the row is the encoding of no message.
 ///
-/// A pattern is plain where it has no `?` and at most four open tokens: its plan then decides alone.
-/// No message is written, which takes no memory, and where the verdict is certain the words of the
-/// row are not read.
+/// A pattern is plain where it has no `?` and at most four open tokens: its plan then decides
+/// alone. No message is written, which takes no memory, and where the verdict is certain the words
+/// of the row are not read.
 pub fn judge_stored<N: Names>(
     plan: &Plan,
     names: &N,

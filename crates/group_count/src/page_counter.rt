@@ -25,7 +25,8 @@ use step_count::Steps;
 use subquery_filter::Verdict;
 use word_places::HeldWords;
 
-/// What pages are read into and decided in. Each takes the place, and the memory, of the one before it.
+/// What pages are read into and decided in. Each takes the place, and the memory, of the one before
+/// it.
 #[derive(Drop)]
 pub(crate) struct PageRoom {
     alloc: Global,
@@ -198,8 +199,8 @@ fn count_matched<T>(counts: &mut Counts<T>, rows: u32)
     counts.matched = counts.matched.saturating_add(u64::from(rows));
 }
 
-/// Counts all rows that are left of a segment, where each message is found, by the columns that the table
-/// looks at. Answers how many they are.
+/// Counts all rows that are left of a segment, where each message is found, by the columns that the
+/// table looks at. Answers how many they are.
 pub(crate) fn count_rest<D: Disk, T: RowTable>(
     context: &Context<'_, D>,
     pages: &mut SegmentPages,

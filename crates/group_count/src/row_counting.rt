@@ -34,8 +34,8 @@ fn count_found<T: RowTable>(row: RowRef<'_>, counts: &mut Counts<T>) -> Result<(
     Ok(())
 }
 
-/// Counts a row of a plain pattern where its message is found. It is told by the row as it is stored,
-/// so that no message is expanded.
+/// Counts a row of a plain pattern where its message is found. It is told by the row as it is
+/// stored, so that no message is expanded.
 fn count_stored<T: RowTable>(
     query: &Query,
     held: &HeldWords,
@@ -53,8 +53,8 @@ fn count_stored<T: RowTable>(
         → IsLent n query.now held.now (row_of row.entry) verdict → (message : List ℕ)
         → ¬ IsCanonical n.version (row_of row.entry) n.types n.words message }
 {
-    // What the pattern matches, the one that the search is planned over matches too; and a row whose
-    // words are held means by these what it means by all words.
+    // What the pattern matches, the one that the search is planned over matches too; and a row
+    // whose words are held means by these what it means by all words.
     wide_is_wider();
     rows_are_local();
     if is_rejected(verdict) {
@@ -124,8 +124,8 @@ fn count_written<T: RowTable, M: Ledger>(
         → IsLent n query.now held.now (row_of row.entry) verdict → (message : List ℕ)
         → ¬ IsCanonical n.version (row_of row.entry) n.types n.words message }
 {
-    // What the pattern matches, the one that the search is planned over matches too; and a row whose
-    // words are held is written by these as by all words.
+    // What the pattern matches, the one that the search is planned over matches too; and a row
+    // whose words are held is written by these as by all words.
     wide_is_wider();
     rows_are_local();
     if is_rejected(verdict) {
@@ -168,8 +168,8 @@ fn count_stored_rows<T: RowTable>(
     Ok(())
 }
 
-/// Counts the rows of a page whose messages are found. A row in the range is written into the buffer,
-/// in the place of the last one, and matched there.
+/// Counts the rows of a page whose messages are found. A row in the range is written into the
+/// buffer, in the place of the last one, and matched there.
 fn count_written_rows<T: RowTable, M: Ledger>(
     query: &Query,
     layouts: &Layouts,

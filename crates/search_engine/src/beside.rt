@@ -94,8 +94,8 @@ fn search_lent<'q, R: Threads + Sync, D: SharedDisk, K: Sink, L: Ledger, M: Ledg
     answer
 }
 
-/// How long the names of files may be, in bytes, with all lanes together. A lane holds the lines of some 65,536
-/// rows, so that the names in the lines of all lanes take some 64 MiB at most.
+/// How long the names of files may be, in bytes, with all lanes together. A lane holds the lines of
+/// some 65,536 rows, so that the names in the lines of all lanes take some 64 MiB at most.
 const NAME_BYTES: usize = 1_024;
 
 /// How many bytes the longest name of a file has.
@@ -107,8 +107,8 @@ fn longest_name(files: &[FileEntry]) -> usize {
     longest
 }
 
-/// How many lanes so many workers are. One worker needs none, and no segment has two. They are fewer where a
-/// file has a long name, as a lane holds its lines until its turn ends.
+/// How many lanes so many workers are. One worker needs none, and no segment has two. They are
+/// fewer where a file has a long name, as a lane holds its lines until its turn ends.
 fn lanes_for(workers: u32, segments: usize, files: &[FileEntry]) -> u32 {
     if workers < 2 || segments < 2 {
         return 0;
@@ -119,8 +119,8 @@ fn lanes_for(workers: u32, segments: usize, files: &[FileEntry]) -> u32 {
     }
 }
 
-/// Searches the segments in their order, and answers how many were opened. With several workers, and
-/// where the disk has parts, each works by itself; else it is the search of one.
+/// Searches the segments in their order, and answers how many were opened. With several workers,
+/// and where the disk has parts, each works by itself; else it is the search of one.
 pub(crate) fn search_fronts<R: Threads + Sync, D: SharedDisk, K: Sink, L: Ledger, M: Ledger>(
     crew: &Crew<'_, '_, R, D>,
     held: &mut HeldWords,

@@ -50,8 +50,8 @@ pub(crate) fn tick_times<M: Ledger>(times: u64, expanded: &mut Steps<M>)
     }
 }
 
-/// Sends on what the search of a page left. Where it did not go through, what the pages before it left is sent
-/// out first.
+/// Sends on what the search of a page left. Where it did not go through, what the pages before it
+/// left is sent out first.
 fn gather<K: Sink, M: Ledger>(
     slot: &PageSlot,
     out: &mut K,

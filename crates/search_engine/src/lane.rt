@@ -1,4 +1,5 @@
-//! A lane: it searches segments of its own over its part of the disk, as one worker does, into a text.
+//! A lane: it searches segments of its own over its part of the disk, as one worker does, into a
+//! text.
 ghost use Rattle.std.specs.Prelude.{◌≡◌, ◌≤◌, [], length, IfOk, IsErrOf, Ok};
 ghost use Rattle.step_count.specs.Opens.{OpensFor};
 ghost use Rattle.search_walk.specs.Held.{named};
@@ -36,8 +37,8 @@ pub(crate) struct LaneScope<'q> {
     pub(crate) found: &'q [Option<u32>],
 }
 
-/// Searches segments as one worker does, over a part of the disk and into a text that is empty, with counters
-/// of its own. A text that cannot grow is a fault of the output.
+/// Searches segments as one worker does, over a part of the disk and into a text that is empty,
+/// with counters of its own. A text that cannot grow is a fault of the output.
 fn search_into<P: Disk, L: Ledger, M: Ledger>(
     lane: LaneScope<'_>,
     first: &HeldWords,
@@ -217,8 +218,8 @@ impl<'q, P: Disk> Lane<'q, P> {
         self.answer
     }
 
-    /// Lets all have the words that it has read, and goes on with those that all had. Without memory for
-    /// a share it keeps its own.
+    /// Lets all have the words that it has read, and goes on with those that all had. Without
+    /// memory for a share it keeps its own.
     pub(crate) fn share_words(&mut self, all: &mut HeldWords)
         requires well { IsWell self.old }
         requires serves { Serves (scope_of P.state self.old).names all.old }

@@ -3,8 +3,8 @@ ghost use Rattle.search_engine.specs.Laws.{ExactExpandsPrinted, OneIsFound};
 
 use query_plan::wide_is_wider;
 
-/// Where the pattern has no `?` and at most
-/// [`MAX_OPEN_TOKENS`](query_plan::MAX_OPEN_TOKENS) open tokens, a search expands only what it prints.
+/// Where the pattern has no `?` and at most [`MAX_OPEN_TOKENS`](query_plan::MAX_OPEN_TOKENS) open
+/// tokens, a search expands only what it prints.
 pub fn exact_expands_printed()
     ensures { ExactExpandsPrinted }
 {

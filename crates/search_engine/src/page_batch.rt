@@ -26,8 +26,8 @@ use std::sync::ledger::Ledger;
 use step_count::Steps;
 use word_places::HeldWords;
 
-/// What is at hand between the reads of pages: the lines for the output, the counts, and the pages that
-/// wait to be searched. Pages that were searched lend their memory to later ones.
+/// What is at hand between the reads of pages: the lines for the output, the counts, and the pages
+/// that wait to be searched. Pages that were searched lend their memory to later ones.
 #[derive(Drop)]
 pub(crate) struct PageBatch {
     alloc: Global,
@@ -78,8 +78,8 @@ impl PageBatch {
         self.alloc
     }
 
-    /// Reads the next page of a segment, whose first message has this label, and the words by which its
-    /// rows may have to be written. It does not wait yet.
+    /// Reads the next page of a segment, whose first message has this label, and the words by which
+    /// its rows may have to be written. It does not wait yet.
     pub(crate) fn read<D: Disk>(
         &mut self,
         context: &Context<'_, D>,

@@ -32,8 +32,8 @@ pub(crate) const NO_COUNTS: Counts = Counts {
     expanded: 0,
 };
 
-/// A page in memory, what was decided of its rows, and what its search left: the lines of the messages
-/// that are found, the counts, and whether it went through.
+/// A page in memory, what was decided of its rows, and what its search left: the lines of the
+/// messages that are found, the counts, and whether it went through.
 #[derive(Drop)]
 pub(crate) struct PageSlot {
     /// The name of the file.
@@ -107,8 +107,8 @@ impl PageSlot {
         self.answer
     }
 
-    /// Reads the next page in the place of the one that it has, decides its rows, and reads the words
-    /// by which they may have to be written.
+    /// Reads the next page in the place of the one that it has, decides its rows, and reads the
+    /// words by which they may have to be written.
     pub(crate) fn read<D: Disk>(
         self,
         context: &Context<'_, D>,

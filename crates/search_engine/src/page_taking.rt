@@ -23,8 +23,8 @@ use std::sync::ledger::Ledger;
 use step_count::Steps;
 use word_places::HeldWords;
 
-/// Reads the next page, whose first message has this label, and lets it wait, or searches it where it is
-/// due. Where a page cannot be read, the pages before it are searched and sent out first, but
+/// Reads the next page, whose first message has this label, and lets it wait, or searches it where
+/// it is due. Where a page cannot be read, the pages before it are searched and sent out first, but
 /// not after a fault of the disk.
 fn read_next<D: Disk, K: Sink, M: Ledger>(
     context: &Context<'_, D>,
@@ -82,7 +82,8 @@ fn read_next<D: Disk, K: Sink, M: Ledger>(
     Ok(rows)
 }
 
-/// Takes the pages of a walk for a search: a batch of them waits, and what is found in them is written.
+/// Takes the pages of a walk for a search: a batch of them waits, and what is found in them is
+/// written.
 #[derive(Drop)]
 struct Printing<'a, K, M: Ledger> {
     out: &'a mut K,

@@ -1,4 +1,5 @@
-//! Parts of the disk, each with a lane over it: they are lent before a search, and come back behind it.
+//! Parts of the disk, each with a lane over it: they are lent before a search, and come back behind
+//! it.
 ghost use Rattle.std.specs.Prelude.{◌≡◌, ◌<◌, ◌≤◌, [], All, List, IfOk};
 ghost use Rattle.std.specs.List.{Contains};
 ghost use Rattle.log_seams.specs.Disk.{Rests};
@@ -17,8 +18,8 @@ use log_seams::SharedDisk;
 use std::alloc::{AllocError, Global};
 use word_places::HeldWords;
 
-/// At most so many lanes, each over a part of the disk and with a share of the words that are held, and
-/// without segments: as many as parts can be had.
+/// At most so many lanes, each over a part of the disk and with a share of the words that are held,
+/// and without segments: as many as parts can be had.
 pub(crate) fn lend_lanes<'q, D: SharedDisk>(
     alloc: Global,
     most: u32,

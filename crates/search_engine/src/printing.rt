@@ -23,12 +23,12 @@ use step_count::Steps;
 use subquery_filter::Verdict;
 use word_places::{HeldWords, rows_are_local};
 
-/// Of how many rows the words are looked at before they are written. Free to tune: 32 to 256 gain the same,
-/// fewer less.
+/// Of how many rows the words are looked at before they are written. Free to tune: 32 to 256 gain
+/// the same, fewer less.
 const AHEAD: u32 = 64;
 
-/// What rows that were decided are printed by: the query, the first log types cut into pieces, and the
-/// words that are held.
+/// What rows that were decided are printed by: the query, the first log types cut into pieces, and
+/// the words that are held.
 #[derive(Clone, Copy)]
 pub(crate) struct Printer<'q> {
     pub(crate) query: &'q Query,
@@ -51,7 +51,8 @@ impl<'q> Printer<'q> {
     }
 }
 
-/// Keeps a message that was written behind the first so many bytes, or takes it back, and counts it.
+/// Keeps a message that was written behind the first so many bytes, or takes it back, and counts
+/// it.
 fn keep<M: Ledger>(
     judgement: Judgement,
     len: usize,
@@ -83,8 +84,8 @@ fn keep<M: Ledger>(
 /// Writes the line of a row behind what is gathered, where its message is found.
 ///
 /// A message in the range is written and then matched: one that is not found is taken back, which
-/// costs less than a match over the row as it is stored. Where it was decided that it cannot be found
-/// it is not written, and where that it is expanded it is not matched for that.
+/// costs less than a match over the row as it is stored. Where it was decided that it cannot be
+/// found it is not written, and where that it is expanded it is not matched for that.
 fn print_row<M: Ledger>(
     printer: &Printer<'_>,
     writer: &mut RowWriter<'_>,
@@ -110,8 +111,8 @@ fn print_row<M: Ledger>(
         → IsLent n printer.now.query.now printer.now.held.now (row_of row.entry) verdict
         → (message : List ℕ) → ¬ IsCanonical n.version (row_of row.entry) n.types n.words message }
 {
-    // What the pattern matches, the one that the search is planned over matches too; and a row whose
-    // words are held is written by these as by all words.
+    // What the pattern matches, the one that the search is planned over matches too; and a row
+    // whose words are held is written by these as by all words.
     wide_is_wider();
     rows_are_local();
     if is_rejected(verdict) {
@@ -129,8 +130,8 @@ fn print_row<M: Ledger>(
     Ok(())
 }
 
-/// Looks at the words of the next rows that may be written, where the row at this place is the first of so
-/// many.
+/// Looks at the words of the next rows that may be written, where the row at this place is the
+/// first of so many.
 fn look_ahead(
     printer: &Printer<'_>,
     page: &Columns,

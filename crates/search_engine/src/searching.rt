@@ -22,8 +22,8 @@ use std::thread::Threads;
 use step_count::Steps;
 use wild_match::Pattern;
 
-/// Searches the segments of an archive, with nothing gathered, and sends out what is left. A journal's
-/// log types, words and heads stand where its places say.
+/// Searches the segments of an archive, with nothing gathered, and sends out what is left. A
+/// journal's log types, words and heads stand where its places say.
 fn search_opened<R: Threads + Sync, D: SharedDisk, K: Sink, L: Ledger, M: Ledger>(
     workers: Workers<'_, R>,
     query: &Query,
@@ -91,28 +91,28 @@ fn search_opened<R: Threads + Sync, D: SharedDisk, K: Sink, L: Ledger, M: Ledger
     })
 }
 
-/// Prints the messages of an archive that a pattern matches, in the range: each with the name of its
-/// file and its number in the file, by file and then by number. The pattern is one that
+/// Prints the messages of an archive that a pattern matches, in the range: each with the name of
+/// its file and its number in the file, by file and then by number. The pattern is one that
 /// [`read_pattern`](wild_match::read_pattern) read, and the places those of the disk.
 ///
-/// Log types are read before the segments, each record once. Words are read where they are wanted: all of
-/// them once, where some log type leaves the decision to its words or a word that is needed is a variable;
-/// and then with its record each word of a message that is written.
+/// Log types are read before the segments, each record once. Words are read where they are wanted:
+/// all of them once, where some log type leaves the decision to its words or a word that is needed
+/// is a variable; and then with its record each word of a message that is written.
 ///
 /// The `workers` are so many threads in all, each with a part of the disk. In a turn each reads and
-/// searches whole segments by itself, up to 65,536 rows or one segment; what they found is printed in
-/// order behind the turn. With any number of workers the same is printed and counted. Where the disk
-/// has no parts there is one.
+/// searches whole segments by itself, up to 65,536 rows or one segment; what they found is printed
+/// in order behind the turn. With any number of workers the same is printed and counted. Where the
+/// disk has no parts there is one.
 ///
-/// Of a barren segment no column is read: its head tells that no message of it in the range matches. Of
-/// the others `opened` counts each, and `expanded` counts the messages in the range that the widened
-/// pattern matches.
+/// Of a barren segment no column is read: its head tells that no message of it in the range
+/// matches. Of the others `opened` counts each, and `expanded` counts the messages in the range
+/// that the widened pattern matches.
 ///
 /// # Errors
 ///
-/// `DiskFault` or `SinkFault`, where the count of faults of the disk or of the output rose; `Damaged`,
-/// where the disk's bytes are no archive; or `OutOfMemory`. The output then has a front of what is
-/// to be printed.
+/// `DiskFault` or `SinkFault`, where the count of faults of the disk or of the output rose;
+/// `Damaged`, where the disk's bytes are no archive; or `OutOfMemory`. The output then has a front
+/// of what is to be printed.
 pub fn search<R: Threads + Sync, D: SharedDisk, K: Sink, L: Ledger, M: Ledger>(
     rt: &R,
     workers: u32,

@@ -1,4 +1,5 @@
-//! A search by lanes, in turns: the lanes run beside one another, and then what they left is sent on in order.
+//! A search by lanes, in turns: the lanes run beside one another, and then what they left is sent
+//! on in order.
 ghost use Rattle.std.specs.Prelude.{◌≡◌, ◌<◌, ◌≤◌, ◌++◌, ◌^◌, [], ℕ, List, Option, All, length, IfOk, OnOk, OnErr, IsErrOf};
 ghost use Rattle.log_seams.specs.Outside.{CountsOf};
 ghost use Rattle.search_walk.specs.Opened.{NoFronts};
@@ -121,8 +122,8 @@ fn rows_each(fronts: &[SegmentFront], lanes: usize) -> u64 {
     rows.div_ceil(lanes.max(1) as u64).clamp(1, MOST_ROWS)
 }
 
-/// A turn: the lanes search the next segments, and what they left is sent on, but not after a fault of
-/// the disk. Answers the segments that are left, and how many were opened.
+/// A turn: the lanes search the next segments, and what they left is sent on, but not after a fault
+/// of the disk. Answers the segments that are left, and how many were opened.
 fn run_turn<'q, R: Threads + Sync, D: Disk, P: Disk + Send, K: Sink, L: Ledger, M: Ledger>(
     rt: &R,
     lender: &D,
@@ -179,8 +180,8 @@ fn run_turn<'q, R: Threads + Sync, D: Disk, P: Disk + Send, K: Sink, L: Ledger, 
     Ok((left, count))
 }
 
-/// Searches the segments by lanes, in turns, and answers how many were opened. Between the turns the lanes
-/// share the words that they have read.
+/// Searches the segments by lanes, in turns, and answers how many were opened. Between the turns
+/// the lanes share the words that they have read.
 pub(crate) fn search_turns<
     'q,
     R: Threads + Sync,

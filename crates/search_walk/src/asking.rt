@@ -90,8 +90,8 @@ fn numbers_of(alloc: Global, lists: &[NumberList]) -> Result<Vec<Option<u32>>, A
     Ok(found)
 }
 
-/// The numbers of the words that have the needles: of those that are looked for in words, and then of
-/// whole words.
+/// The numbers of the words that have the needles: of those that are looked for in words, and then
+/// of whole words.
 fn find_numbers<D: Disk>(
     alloc: Global,
     within: &[Text],
@@ -122,8 +122,8 @@ fn find_numbers<D: Disk>(
     Ok(lists)
 }
 
-/// Asks the words of an archive what a filter and a query leave to them: in one pass, and in none where
-/// nothing is left.
+/// Asks the words of an archive what a filter and a query leave to them: in one pass, and in none
+/// where nothing is left.
 pub(crate) fn ask_words<D: Disk>(
     alloc: Global,
     query: &Query,

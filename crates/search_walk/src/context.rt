@@ -39,13 +39,14 @@ use step_count::Steps;
 use subquery_filter::{Filter, PageTests, Verdict, barren_by, is_outside};
 use word_places::HeldWords;
 
-/// Of how many log types a search has layouts: the first ones, which most messages have, since a log type
-/// gets its number where its text is first met. Free to tune: a layout costs as much as it saves over some
-/// ten messages or twenty, and messages of other log types are written from their texts.
+/// Of how many log types a search has layouts: the first ones, which most messages have, since a
+/// log type gets its number where its text is first met. Free to tune: a layout costs as much as it
+/// saves over some ten messages or twenty, and messages of other log types are written from their
+/// texts.
 pub(crate) const LAID_TYPES: u32 = 1024;
 
-/// What a search goes over, borrowed: the query, the first log types cut into pieces, what log types and
-/// words tell, and the files. It is the same in all calls of a search.
+/// What a search goes over, borrowed: the query, the first log types cut into pieces, what log
+/// types and words tell, and the files. It is the same in all calls of a search.
 #[derive(Drop)]
 pub struct Context<'q, D: Disk> {
     query: &'q Query,
@@ -73,9 +74,9 @@ impl<'q, D: Disk> Model for Context<'q, D> {
 }
 
 impl<'q, D: Disk> Context<'q, D> {
-    /// What is lent on. The layouts are those of the first log types, and the filter is that of the query,
-    /// over all of these and over the words that stand on the disk, of which the needed ones have the
-    /// numbers that were found.
+    /// What is lent on. The layouts are those of the first log types, and the filter is that of the
+    /// query, over all of these and over the words that stand on the disk, of which the needed ones
+    /// have the numbers that were found.
     pub fn new(
         query: &'q Query,
         layouts: &'q Layouts,
@@ -116,8 +117,8 @@ impl<'q, D: Disk> Context<'q, D> {
         open_segment(self.files, segment, opened)
     }
 
-    /// Whether a segment's front tells that none of its messages is found. The pattern is one that was
-    /// read, as the laws of barren segments ask.
+    /// Whether a segment's front tells that none of its messages is found. The pattern is one that
+    /// was read, as the laws of barren segments ask.
     pub fn is_outside(&self, front: &SegmentFront) -> bool
         ensures told { IsTrue result → IsFixed (fixed_in front.now) → (front.now.rows ≡ 0)
             ⊎ (IsBounded self.now.query.range × LeavesOut self.now.query.range
@@ -133,8 +134,8 @@ impl<'q, D: Disk> Context<'q, D> {
         )
     }
 
-    /// Whether a segment's head tells that none of its messages is found. The pattern is one that was
-    /// read, as the laws of barren segments ask.
+    /// Whether a segment's head tells that none of its messages is found. The pattern is one that
+    /// was read, as the laws of barren segments ask.
     pub fn is_barren(&self, held: &HeldWords, segment: &LoadedSegment) -> bool
         requires { held.now.types ≡ self.now.names.types }
         ensures told { OfLoaded self.now.query segment.now (λ p. IsTold self.now.names
@@ -151,8 +152,8 @@ impl<'q, D: Disk> Context<'q, D> {
         )
     }
 
-    /// Whether the log types and words that a segment's head lists, and its moments, leave one of its
-    /// messages.
+    /// Whether the log types and words that a segment's head lists, and its moments, leave one of
+    /// its messages.
     pub fn may_match(&self, segment: &LoadedSegment) -> bool
         ensures { IsFalse result → OfLoaded self.now.query segment.now (λ p.
             IsTold self.now.names → HasNoMatch (wide_pieces self.now.query.pattern)
@@ -165,8 +166,8 @@ impl<'q, D: Disk> Context<'q, D> {
         self.filter.may_match_types(head)
     }
 
-    /// Whether the lists of words in heads tell a search nothing: no word brings a token of the pattern,
-    /// and no needed word is a variable.
+    /// Whether the lists of words in heads tell a search nothing: no word brings a token of the
+    /// pattern, and no needed word is a variable.
     pub fn spares_words(&self) -> bool
         ensures { IsTrue result → NeedsNoVariable (wide_pieces self.now.query.pattern) }
     {
@@ -176,8 +177,8 @@ impl<'q, D: Disk> Context<'q, D> {
         self.filter.spares_words()
     }
 
-    /// Whether these log types tell that no message of a row that has one of them is expanded, whatever
-    /// else the row has.
+    /// Whether these log types tell that no message of a row that has one of them is expanded,
+    /// whatever else the row has.
     pub fn rules_out(&self, types: &[u32]) -> bool
         ensures { IsTrue result → IsTold self.now.names
             → All (IsRuledOut self.now.names self.now.query) types.now }
@@ -185,8 +186,8 @@ impl<'q, D: Disk> Context<'q, D> {
         self.filter.rejects_all(types)
     }
 
-    /// What is told of a row by its moment, and by its numbers alone. One that is out of the range counts
-    /// as rejected.
+    /// What is told of a row by its moment, and by its numbers alone. One that is out of the range
+    /// counts as rejected.
     pub fn decide(&self, row: RowRef<'_>) -> Verdict
         ensures { IsTold self.now.names
             → IsDecided self.now.names self.now.query (row_of row.entry) result }
@@ -202,8 +203,8 @@ impl<'q, D: Disk> Context<'q, D> {
         self.filter
     }
 
-    /// What is told of a row by its moment, and by its numbers alone, with what goes along from row to row
-    /// of a page. The filter is the one that is lent on.
+    /// What is told of a row by its moment, and by its numbers alone, with what goes along from row
+    /// to row of a page. The filter is the one that is lent on.
     #[inline]
     pub fn decide_in(&self, filter: &Filter, row: RowRef<'_>, page: &mut PageTests) -> Verdict
         ensures decided { IsPage filter.now page.old → (IsTold self.now.names
@@ -221,8 +222,8 @@ impl<'q, D: Disk> Context<'q, D> {
         filter.verdict_in(row, page)
     }
 
-    /// What is told of the row at a place of a page by its moment, and by its numbers alone. It may be known
-    /// already that it is rejected.
+    /// What is told of the row at a place of a page by its moment, and by its numbers alone. It may
+    /// be known already that it is rejected.
     #[inline]
     pub fn decide_at(
         &self,

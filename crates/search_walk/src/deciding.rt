@@ -35,11 +35,11 @@ fn end_at(ends: &[u32], place: u32) -> usize
     ends[place as usize] as usize
 }
 
-/// Decides each row of a page, by its moment and by its numbers alone. It asks neither the disk nor a
-/// word, and takes no memory: there is room for a verdict for each row.
+/// Decides each row of a page, by its moment and by its numbers alone. It asks neither the disk nor
+/// a word, and takes no memory: there is room for a verdict for each row.
 ///
-/// Most rows are rejected by their log types and by where the next word stands that counts, so their
-/// own words are not looked at one by one.
+/// Most rows are rejected by their log types and by where the next word stands that counts, so
+/// their own words are not looked at one by one.
 // A function of its own, so that its loop has the registers.
 #[inline(never)]
 pub fn decide_page<D: Disk>(context: &Context<'_, D>, page: &Columns, verdicts: &mut Vec<Verdict>)
@@ -64,7 +64,8 @@ pub fn decide_page<D: Disk>(context: &Context<'_, D>, page: &Columns, verdicts: 
     }
 }
 
-/// Reads the words of a row that was decided, where it may have to be written and they are not held.
+/// Reads the words of a row that was decided, where it may have to be written and they are not
+/// held.
 fn hold_row<D: Disk>(
     context: &Context<'_, D>,
     row: RowRef<'_>,
@@ -112,8 +113,8 @@ fn has_row(row: RowRef<'_>, verdict: Verdict, held: &HeldWords) -> bool
     held.has_row(row)
 }
 
-/// Whether it is known that the words of all rows of a page are held that may have to be written. It
-/// asks neither the disk nor a word.
+/// Whether it is known that the words of all rows of a page are held that may have to be written.
+/// It asks neither the disk nor a word.
 // A function of its own, so that its loop has the registers.
 #[inline(never)]
 pub fn has_rows(page: &Columns, verdicts: &[Verdict], held: &HeldWords) -> bool
@@ -129,8 +130,8 @@ pub fn has_rows(page: &Columns, verdicts: &[Verdict], held: &HeldWords) -> bool
     true
 }
 
-/// Reads the words of the rows of a page that were decided, of those that may have to be written, as
-/// far as they are not held: none where it is known that they are.
+/// Reads the words of the rows of a page that were decided, of those that may have to be written,
+/// as far as they are not held: none where it is known that they are.
 // A function of its own, so that its loop has the registers.
 #[inline(never)]
 pub fn hold_rows<D: Disk>(

@@ -1,4 +1,5 @@
-//! The way of a search through an archive: what is asked, and which segments, pages and rows it goes over.
+//! The way of a search through an archive: what is asked, and which segments, pages and rows it
+//! goes over.
 #![tactic(auto)]
 
 mod asking;

@@ -20,8 +20,8 @@ fn file_of(files: &[FileEntry], number: u32) -> Option<&FileEntry>
     files.get(number as usize)
 }
 
-/// Where a payload begins and how long it is without so many of its bytes. None where it has not so many,
-/// or ends behind the last place.
+/// Where a payload begins and how long it is without so many of its bytes. None where it has not so
+/// many, or ends behind the last place.
 fn shortened(place: &SegmentPlace, left_out: u64) -> Option<(u64, u64)>
     ensures some { IfSome result (λ r. (r.0 ≡ place.now.payload + left_out)
         × (r.1 + left_out ≡ place.now.length)) }
@@ -36,8 +36,8 @@ fn shortened(place: &SegmentPlace, left_out: u64) -> Option<(u64, u64)>
 
 /// The file of a segment, and a reader of its pages. None where no archive has such a segment.
 ///
-/// Where its words were not read, its payload is taken to begin so much later that the columns stand where
-/// its head, which lists no words here, says.
+/// Where its words were not read, its payload is taken to begin so much later that the columns
+/// stand where its head, which lists no words here, says.
 pub(crate) fn open_segment<'a, L: Ledger>(
     files: &'a [FileEntry],
     segment: &LoadedSegment,

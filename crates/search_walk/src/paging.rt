@@ -72,8 +72,8 @@ fn take_pages<D: Disk, W: TakesPages>(
     Ok(())
 }
 
-/// Goes over the pages of a segment, whose first message has this label. The log types of all its rows
-/// come first, by one read: pages that they rule out are passed, and the others are taken.
+/// Goes over the pages of a segment, whose first message has this label. The log types of all its
+/// rows come first, by one read: pages that they rule out are passed, and the others are taken.
 pub(crate) fn read_pages<D: Disk, W: TakesPages>(
     context: &Context<'_, D>,
     held: &mut HeldWords,

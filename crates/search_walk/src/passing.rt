@@ -23,8 +23,8 @@ use word_places::HeldWords;
 /// How many log types are looked at together, from the end of a segment on: those of a page.
 const LOOK_ROWS: usize = 4096;
 
-/// Where the log types of a segment lie while its pages are gone over, and what is read to pass one of
-/// them. It serves for all segments of a search.
+/// Where the log types of a segment lie while its pages are gone over, and what is read to pass one
+/// of them. It serves for all segments of a search.
 #[derive(Drop)]
 pub(crate) struct TypeRoom {
     pub(crate) bytes: Vec<u8>,
@@ -44,16 +44,16 @@ impl TypeRoom {
 /// What is known of the log types of the rows of a segment that are left.
 #[derive(Clone, Copy, Debug)]
 pub(crate) struct Ahead<'t> {
-    /// The log types of the segment's rows, up to a row behind which all are ruled out. None where they
-    /// could not be read.
+    /// The log types of the segment's rows, up to a row behind which all are ruled out. None where
+    /// they could not be read.
     pub(crate) known: Option<&'t [u32]>,
     /// How many rows of the segment come before those that are left.
     pub(crate) gone: usize,
 }
 
-/// Reads the log types of all rows of a segment, and tells whether it could. Those of more rows than an
-/// archive has in a segment are not read. Whatever stops it is forgotten but a fault of the disk: the
-/// pages are then taken, and whoever takes them tells the damage or the want of memory.
+/// Reads the log types of all rows of a segment, and tells whether it could. Those of more rows
+/// than an archive has in a segment are not read. Whatever stops it is forgotten but a fault of the
+/// disk: the pages are then taken, and whoever takes them tells the damage or the want of memory.
 pub(crate) fn read_ahead<D: Disk>(
     pages: &SegmentPages,
     disk: &mut D,
@@ -86,8 +86,8 @@ pub(crate) fn read_ahead<D: Disk>(
     }
 }
 
-/// The front of log types behind which all are ruled out. It looks from the end on, at those of a page
-/// together, up to the first of them that stay.
+/// The front of log types behind which all are ruled out. It looks from the end on, at those of a
+/// page together, up to the first of them that stay.
 fn kept_of<'t, D: Disk>(context: &Context<'_, D>, types: &'t [u32]) -> &'t [u32]
     ensures { KeepsFirst context.now.names context.now.query types.now result.now }
 {
@@ -102,7 +102,8 @@ fn kept_of<'t, D: Disk>(context: &Context<'_, D>, types: &'t [u32]) -> &'t [u32]
     kept
 }
 
-/// The front of log types that were read behind which all are ruled out. None where they were not read.
+/// The front of log types that were read behind which all are ruled out. None where they were not
+/// read.
 pub(crate) fn known_of<'t, D: Disk>(
     context: &Context<'_, D>,
     told: bool,
@@ -140,8 +141,8 @@ fn first_of(types: &[u32], count: usize) -> &[u32]
     first
 }
 
-/// Passes pages whose rows are all ruled out, and answers how many rows they have: all that are left,
-/// with nothing read, or the next page, by its counts. Else nothing is passed.
+/// Passes pages whose rows are all ruled out, and answers how many rows they have: all that are
+/// left, with nothing read, or the next page, by its counts. Else nothing is passed.
 fn pass_page<D: Disk>(
     context: &Context<'_, D>,
     pages: &mut SegmentPages,
@@ -163,8 +164,8 @@ fn pass_page<D: Disk>(
     ensures counts { CountsOf PageRefusal.DiskFault
         (D.state disk.old).faults (D.state disk.new).faults result }
 {
-    // What the pattern matches, the one that the search is planned over matches too; and as many rows are
-    // left as the pages before have not had.
+    // What the pattern matches, the one that the search is planned over matches too; and as many
+    // rows are left as the pages before have not had.
     wide_is_wider();
     left_are_counted();
     if left.is_empty() {
@@ -180,9 +181,9 @@ fn pass_page<D: Disk>(
     Ok(Some(rows))
 }
 
-/// Passes pages whose rows are known to be ruled out, and answers how many rows they have. Whatever stops
-/// it is forgotten but a fault of the disk: the page is then taken, and whoever takes it tells the damage
-/// or the want of memory.
+/// Passes pages whose rows are known to be ruled out, and answers how many rows they have. Whatever
+/// stops it is forgotten but a fault of the disk: the page is then taken, and whoever takes it
+/// tells the damage or the want of memory.
 fn pass_next<D: Disk>(
     context: &Context<'_, D>,
     pages: &mut SegmentPages,
@@ -217,8 +218,8 @@ fn pass_next<D: Disk>(
     }
 }
 
-/// Passes the next page, or all that are left, where its log types rule out all of its rows, and else has
-/// it taken, or several of the next pages. Answers how many rows they have.
+/// Passes the next page, or all that are left, where its log types rule out all of its rows, and
+/// else has it taken, or several of the next pages. Answers how many rows they have.
 pub(crate) fn take_next<D: Disk, W: TakesPages>(
     context: &Context<'_, D>,
     held: &mut HeldWords,

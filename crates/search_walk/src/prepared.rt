@@ -70,13 +70,14 @@ pub struct Prepared {
 }
 
 impl Prepared {
-    /// Reads the log types of an archive and cuts the first of them, and asks its words what a query leaves
-    /// to them, and then its log types, of which most are rejected by what the words do not bring.
+    /// Reads the log types of an archive and cuts the first of them, and asks its words what a
+    /// query leaves to them, and then its log types, of which most are rejected by what the words
+    /// do not bring.
     ///
     /// # Errors
     ///
-    /// `DiskFault`, where the disk's count of faults rose; `Damaged`, where no log types or no words stand
-    /// at their places; or `OutOfMemory`.
+    /// `DiskFault`, where the disk's count of faults rose; `Damaged`, where no log types or no
+    /// words stand at their places; or `OutOfMemory`.
     pub fn of<D: Disk>(
         alloc: Global,
         query: &Query,

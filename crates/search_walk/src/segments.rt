@@ -22,8 +22,8 @@ use step_count::Steps;
 use subquery_filter::barren_has_no_match;
 use word_places::HeldWords;
 
-/// Searches a segment whose head is loaded, and tells whether it was opened: a barren one is not. Where
-/// it cannot be opened, what was taken before it is finished first.
+/// Searches a segment whose head is loaded, and tells whether it was opened: a barren one is not.
+/// Where it cannot be opened, what was taken before it is finished first.
 fn search_segment<D: Disk, W: TakesPages, L: Ledger>(
     context: &Context<'_, D>,
     held: &mut HeldWords,
@@ -63,8 +63,8 @@ fn search_segment<D: Disk, W: TakesPages, L: Ledger>(
     ensures sink_counts { CountsOf SearchRefusal.SinkFault
         (W.sink_faults work.old) (W.sink_faults work.new) result }
 {
-    // A barren segment has no message in the range that the pattern which the search is planned over
-    // matches; and what the pattern matches, that one matches too.
+    // A barren segment has no message in the range that the pattern which the search is planned
+    // over matches; and what the pattern matches, that one matches too.
     barren_has_no_match();
     wide_is_wider();
     if context.is_barren(held, segment) {
@@ -84,9 +84,9 @@ fn search_segment<D: Disk, W: TakesPages, L: Ledger>(
     Ok(true)
 }
 
-/// Searches a segment by its front, and tells whether it was opened. One that is out of the range is not
-/// read; of any other the head is loaded. Where that cannot be done, what was taken before it is finished
-/// first, but not after a fault of the disk.
+/// Searches a segment by its front, and tells whether it was opened. One that is out of the range
+/// is not read; of any other the head is loaded. Where that cannot be done, what was taken before
+/// it is finished first, but not after a fault of the disk.
 fn visit_segment<D: Disk, W: TakesPages, L: Ledger>(
     alloc: Global,
     context: &Context<'_, D>,
@@ -126,8 +126,8 @@ fn visit_segment<D: Disk, W: TakesPages, L: Ledger>(
     ensures sink_counts { CountsOf SearchRefusal.SinkFault
         (W.sink_faults work.old) (W.sink_faults work.new) result }
 {
-    // One that is out of the range is barren, and what the pattern matches, the one that the search is
-    // planned over matches too.
+    // One that is out of the range is barren, and what the pattern matches, the one that the search
+    // is planned over matches too.
     barren_has_no_match();
     wide_is_wider();
     if context.is_outside(front) {

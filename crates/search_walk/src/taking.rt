@@ -19,8 +19,8 @@ use word_places::HeldWords;
 
 /// What takes the pages of segments, in their order, as a walk reads them. Pages may wait in it.
 ///
-/// How far it came is told by words of its own, of which the laws below hold; so a walk is proved for
-/// whatever becomes of the pages.
+/// How far it came is told by words of its own, of which the laws below hold; so a walk is proved
+/// for whatever becomes of the pages.
 pub trait TakesPages {
     // It may go on, with these words held.
     ghost served: { Self → Scope → HeldNames → Type 0 };
@@ -45,8 +45,8 @@ pub trait TakesPages {
     ///
     /// # Errors
     ///
-    /// `DiskFault` or `SinkFault`, where the count of faults of the disk or of what it writes to rose;
-    /// `Damaged`, where a page, or what is in hand, is none of an archive; or `OutOfMemory`.
+    /// `DiskFault` or `SinkFault`, where the count of faults of the disk or of what it writes to
+    /// rose; `Damaged`, where a page, or what is in hand, is none of an archive; or `OutOfMemory`.
     fn take_page<D: Disk>(
         &mut self,
         context: &Context<'_, D>,
@@ -88,8 +88,8 @@ pub trait TakesPages {
     ///
     /// # Errors
     ///
-    /// `SinkFault`, where the count of faults of what it writes to rose; `Damaged`, where what is in
-    /// hand is none of an archive; or `OutOfMemory`.
+    /// `SinkFault`, where the count of faults of what it writes to rose; `Damaged`, where what is
+    /// in hand is none of an archive; or `OutOfMemory`.
     fn finish<D: Disk>(
         &mut self,
         context: &Context<'_, D>,
