@@ -4,22 +4,42 @@
 #[cfg(test)]
 mod books;
 #[cfg(test)]
-mod filter_many_tests;
+mod codec_script;
 #[cfg(test)]
-mod filter_number_tests;
+mod filter_script;
 #[cfg(test)]
-mod filter_page_tests;
+mod filters;
 #[cfg(test)]
-mod filter_place_tests;
+mod machine;
 #[cfg(test)]
-mod filter_stamp_tests;
+mod many_script;
 #[cfg(test)]
-mod pair_sieve_tests;
+mod messages;
 #[cfg(test)]
-mod row_codec_tests;
+mod naming;
+#[cfg(test)]
+mod page_script;
+#[cfg(test)]
+mod pages;
+#[cfg(test)]
+mod place_script;
+#[cfg(test)]
+mod play;
 #[cfg(test)]
 mod row_rename_tests;
 #[cfg(test)]
-mod row_writer_tests;
+mod rows;
 #[cfg(test)]
-mod subquery_filter_tests;
+mod segments;
+#[cfg(test)]
+mod sieve;
+#[cfg(test)]
+mod sieve_script;
+#[cfg(test)]
+mod stamp_script;
+#[cfg(test)]
+mod texts;
+#[cfg(test)]
+mod value_script;
+#[cfg(test)]
+mod written;
