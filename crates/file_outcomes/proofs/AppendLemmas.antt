@@ -1,38 +1,30 @@
 -- From an archive that was opened to one in which new files have their names.
-use Rattle.std.proofs.Common.{◌≡◌, ◌+◌, ◌<◌, ◌≤◌, refl, sym, ap, subst, ◌∙◌, ℕ, suc, List, [], ◌∷◌, ◌++◌, false, get_or, length, map, take, Option, Some, None, arith}
-use Rattle.std.specs.Prelude.{IfSome, is_some, replicate}
-use Rattle.std.proofs.Math.ListN.{get_or-map}
-use Rattle.std.proofs.Math.Seq.{take-suc}
+use Rattle.std.proofs.Common.{◌≡◌, ◌+◌, ◌<◌, ◌≤◌, refl, sym, ap, subst, ◌∙◌, ℕ, suc, List, [], ◌∷◌, ◌++◌, false, length, map, Option, Some, None}
+use Rattle.std.specs.Prelude.{IfSome, is_some}
 use Rattle.std.proofs.lemmas.List.{length-map}
 use Rattle.record_format.specs.declared.header.Header.{Header}
 use Rattle.record_format.specs.Header.{IsHeader, header_bytes}
 use Rattle.dict_core.specs.Books.{BookState}
-use Rattle.disk_journal.specs.Record.{Saved, Stands}
-use Rattle.disk_journal.specs.Place.{Added, AtEnd, entries}
+use Rattle.disk_journal.specs.Record.{Stands}
+use Rattle.disk_journal.specs.Place.{AtEnd, entries}
 use Rattle.disk_journal.specs.State.{BeginsWith, IsAtEnd, JournalState}
-use Rattle.disk_journal.specs.Calls.{GoesOn, HasAdded}
 use Rattle.archive_meaning.specs.declared.entry.JournalEntry.{JournalEntry}
 use Rattle.archive_meaning.specs.declared.entry.JournalEntry.TheVariants.{Files}
 use Rattle.archive_meaning.specs.Held.{Held, Piece, content_of, files_from}
-use Rattle.archive_meaning.specs.Spelled.{end_of, record_of, records_of, types_of}
+use Rattle.archive_meaning.specs.Spelled.{records_of, types_of}
 use Rattle.archive_meaning.specs.Stands.{IsLegal, StandsFor}
-use Rattle.archive_meaning.specs.Sums.{AddsNames, Admits, AreSums, Sums, end_with, no_messages, sums_from}
-use Rattle.archive_meaning.proofs.JudgeLemmas.{admitted, end_more, same_types}
-use Rattle.archive_meaning.proofs.SumsLemmas.{length-sums}
-use Rattle.archive_meaning.proofs.UniqueLemmas.{records_joined}
+use Rattle.archive_meaning.specs.Sums.{AddsNames}
 use Rattle.archive_open.specs.Kept.{Kept}
 use Rattle.archive_open.specs.Shown.{IsArchiveOf, Looks, Opens, Shown}
-use Rattle.disk_journal.proofs.SpellingLemmas.{length-frame}
 use Rattle.disk_seal.specs.Told.{IfTold, journal_in}
 use Rattle.disk_seal.specs.Opening.{MayOpen}
-use Rattle.disk_seal.specs.Registered.{HoldsNames, StaysOpen}
-use Rattle.ingest_meaning.specs.Room.{files_record, files_size}
+use Rattle.disk_seal.specs.Registered.{HoldsNames}
 use Rattle.ingest_meaning.specs.WordsIn.{words_of}
-use Rattle.disk_seal.proofs.NextLemmas.{gate_at}
-use Rattle.disk_seal.proofs.OpenLemmas.{journal_is, stood_opens}
+use Rattle.disk_seal.proofs.OpenLemmas.{stood_opens}
 use Rattle.disk_seal.proofs.ToldLemmas.{told_both, told_map}
 use Rattle.ingest_workers.specs.Ingested.{told_entries}
 use Rattle.ingest_workers.specs.Journal.{Holds}
+use Rattle.name_records.specs.Named.{HasNames}
 use Rattle.command_answers.specs.Names.{RefusesMore, RefusesNames}
 use Rattle.file_outcomes.specs.Naming.{HasNamesMore, IsHeldBy, IsNamed}
 use Rattle.command_refusals.specs.Reading.{IsArchive}
@@ -40,21 +32,11 @@ use Rattle.file_outcomes.proofs.JoinLemmas.{new_file, types_held, types_named, w
 
 -- ---- the names
 
--- the texts of some first names, and of one more
-pub texts_next : {A : Type 0} (f : A → List ℕ) (names : List A) (i : ℕ) (name : A) (text : List ℕ) (texts more : List (List ℕ)) → i < length names → name ≡ get_or names i name → text ≡ f name
-    → texts ≡ take i (map f names) → more ≡ texts ++ text ∷ [] → more ≡ take (i + 1) (map f names)
-texts_next f names i name text texts more within is asks before pushed =
-    let next_is : i + 1 ≡ suc i = omega arith in
-    let next : take (i + 1) (map f names) ≡ take i (map f names) ++ text ∷ [] =
-    ap (λ n. take n (map f names)) next_is ∙ take-suc (map f names) i (f name) (omega (arith, within, length-map names f))
-    ∙ ap (λ w. take i (map f names) ++ w ∷ []) (get_or-map f names i name ∙ ap f (sym is) ∙ sym asks) in
-    pushed ∙ ap (λ ts. ts ++ text ∷ []) before ∙ sym next
-
 -- names that are not refused may be added
 pub may_add : (held : ℕ) (names : List (List ℕ)) → RefusesNames names None → 1 ≤ length names → RefusesMore held (length names) None → AddsNames held names
 may_add held names fine some few = record { some = some; few = fine.1; short = fine.0; all = few }
 
-length-files : (k : ℕ) (names : List (List ℕ)) (ps : List Piece) → length (files_from k names ps) ≡ length names
+pub length-files : (k : ℕ) (names : List (List ℕ)) (ps : List Piece) → length (files_from k names ps) ≡ length names
 length-files k [] ps = refl
 length-files k (name ∷ names) ps = ap suc (length-files (k + 1) names ps)
 
@@ -102,39 +84,6 @@ module _ (old now : JournalState) (a : Shown) (from : OpensFrom old now a) where
 
   pub holds_names : (held : ℕ) → held ≡ length a.files → HoldsNames held now
   holds_names held same = told_map (is_some now.disk.seen) (λ (shows : ShowsOf a now.header (told_entries now)). λ legal. files_counted now.header (told_entries now) a legal.held held (shows legal) same) shows_now
-
--- ---- the names of the new files
-
--- a legal journal with names more is one
-pub legal_with : (h : Header) (header : IsHeader h) (es : List JournalEntry) (names : List (List ℕ)) (legal : IsLegal h es) → AddsNames (length legal.held.names) names → end_of h (es ++ Files names ∷ []) ≤ h.length_limit → IsLegal h (es ++ Files names ∷ [])
-legal_with h header es names legal adds short =
-    let sums : Sums = record { header = h; types = legal.held.types; words = legal.held.words; files = sums_from 0 legal.held.names legal.held.pieces; end = end_of h es } in
-    let are : AreSums sums es = record { header = header; held = legal.held; run = legal.run; named = legal.named; types = refl; words = refl; files = refl; end = refl; short = legal.short } in
-    let more : Sums = record sums { files = sums.files ++ replicate (length names) no_messages; end = end_with sums (Files names) } in
-    let types : types_of es ≡ sums.types = sym (same_types sums es are) in
-    let end : end_of h (es ++ Files names ∷ []) ≡ end_of h es + 10 + length (record_of (types_of es) (Files names)).payload = end_more h es (Files names) in
-    let admits : Admits sums (Files names) more = ((subst (λ n. AddsNames n names) (sym (length-sums 0 legal.held.names legal.held.pieces)) adds, refl), omega (arith, end, short)) in
-    let all : AreSums more (es ++ Files names ∷ []) = admitted sums more es (Files names) are admits in
-    record { held = all.held; run = all.run; named = all.named; short = subst (λ n. n ≤ h.length_limit) (sym end) (omega (arith, end, short)) }
-
-module _ (h : Header) (header : IsHeader h) (names : List (List ℕ)) (held place : ℕ) where
-  -- what the journal with the names is, where its bytes are told
-  entries_named : (told now : Option (List ℕ)) (count more : ℕ) → is_some now ≡ is_some told → Added told count (files_record names ∷ []) now more
-      → entries told count ≡ records_of (journal_in told count) → IfTold (is_some told) (IsLegal h (journal_in told count))
-      → IfTold (is_some told) ((legal : IsLegal h (journal_in told count)) → held ≡ length legal.held.names)
-      → AddsNames held names → IfTold (is_some told) (place + 1 ≡ end_of h (journal_in told count)) → place + 1 + files_size names ≤ h.length_limit
-      → IfTold (is_some now) (journal_in now more ≡ journal_in told count ++ Files names ∷ [])
-  entries_named None None count more same added spelled legal holds adds gate fits = tt
-  entries_named None (Some c) count more same added spelled legal holds adds gate fits = absurd (cc (same))
-  entries_named (Some b) None count more same added spelled legal holds adds gate fits = absurd (cc (same))
-  entries_named (Some b) (Some c) count more same added spelled legal holds adds gate fits =
-      let es = journal_in (Some b) count in
-      let end : end_of h (es ++ Files names ∷ []) ≡ end_of h es + 10 + length (record_of (types_of es) (Files names)).payload = end_more h es (Files names) in
-      let long : files_size names ≡ 10 + length (files_record names).payload = length-frame (files_record names) in
-      journal_is h header (es ++ Files names ∷ []) (Some c) more (
-        added ∙ (ap (λ (l : List Saved). l ++ files_record names ∷ []) spelled ∙ sym (records_joined [] es (Files names ∷ []))),
-        legal_with h header es names legal (subst (λ n. AddsNames n names) (holds legal) adds) (omega (arith, end, long, gate, fits)),
-      )
 
 -- ---- both books, and the new files
 
@@ -212,24 +161,14 @@ ready h es types words names first legal texts number = record {
         let f = new_file h es names legal i within in
         record { held = _; run = f.run; named = f.named; messages_are = f.none.messages; whole_is = f.none.whole; ended_is = f.none.ended }
 
--- The names were appended behind an archive with so many files.
-pub record AppendsNames (held : ℕ) (names : List (List ℕ)) (old new : JournalState) : Type 0 where
-  pub adds : AddsNames held names
-  pub goes : GoesOn old new
-  pub added : HasAdded (files_record names ∷ []) (files_size names) old new
-  pub fits : old.place + 1 + files_size names ≤ old.header.length_limit
-  pub opens : StaysOpen held old new
-
-module _ (j new : JournalState) (types words : BookState) (files : ℕ) (held : IsHeldBy j types words files) (names : List (List ℕ)) (appends : AppendsNames files names j new) where
-  pub told_named : IfTold (is_some new.disk.seen) (told_entries new ≡ told_entries j ++ Files names ∷ [])
-  told_named =
-      let may = held.opens in
-      entries_named j.header may.header names files j.place j.disk.seen new.disk.seen j.count new.count appends.goes.tells appends.added.added may.spelled may.legal
-      held.names appends.adds (gate_at j.header j.disk.seen j.place j.count j.disk.images may.ends.ends may.spelled) appends.fits
+-- the names were appended behind an archive with so many files
+module _ (j new : JournalState) (types words : BookState) (files : ℕ) (held : IsHeldBy j types words files) (names : List (List ℕ)) (adds : AddsNames files names) (named : HasNames files names (Files names ∷ []) j new) where
+  told_named : IfTold (is_some new.disk.seen) (told_entries new ≡ told_entries j ++ Files names ∷ [])
+  told_named = subst (λ b. IfTold b (told_entries new ≡ told_entries j ++ Files names ∷ [])) (sym named.tells) named.entries
 
   -- the journal has the names more
-  pub names_more : HasNamesMore names j new
-  names_more = record { header = appends.goes.header; count = appends.added.count; tells = appends.goes.tells; entries = told_named }
+  pub names_more : new.count ≡ j.count + 1 → HasNamesMore names j new
+  names_more count = record { header = named.header; count = count; tells = named.tells; entries = told_named }
 
   told_ready : IfTold (is_some new.disk.seen) (IsReady new.header (told_entries new) types words files (length names))
   told_ready =
@@ -240,8 +179,8 @@ module _ (j new : JournalState) (types words : BookState) (files : ℕ) (held : 
       let here : IfTold (is_some j.disk.seen) (IsReady j.header es types words files (length names)) =
       told_both (is_some j.disk.seen) (λ (n : (legal : IsLegal j.header (told_entries j)) × (files ≡ length legal.held.names)) (t : AreTextsOf j.header (told_entries j) types words). ready j.header (told_entries j) types words names files n.0 t n.1) numbered texts in
       let there : IfTold (is_some new.disk.seen) (IsReady new.header es types words files (length names)) =
-      subst (λ h. IfTold (is_some new.disk.seen) (IsReady h es types words files (length names))) (sym appends.goes.header)
-      (subst (λ b. IfTold b (IsReady j.header es types words files (length names))) (sym appends.goes.tells) here) in
+      subst (λ h. IfTold (is_some new.disk.seen) (IsReady h es types words files (length names))) (sym named.header)
+      (subst (λ b. IfTold b (IsReady j.header es types words files (length names))) (sym named.tells) here) in
       told_both (is_some new.disk.seen) (λ (is : told_entries new ≡ es) (r : IsReady new.header es types words files (length names)). subst (λ x. IsReady new.header x types words files (length names)) (sym is) r) told_named there
 
   all_named : IsNamed new types words files (length names)
@@ -250,9 +189,9 @@ module _ (j new : JournalState) (types words : BookState) (files : ℕ) (held : 
       let told = is_some new.disk.seen in
       let Is : Type 0 = IsReady new.header (told_entries new) types words files (length names) in
       record {
-        opens = appends.opens held.opens held.names;
+        opens = named.opens;
         texts = record { types_are = told_map told (λ (x : Is). x.types_are) r; words_are = told_map told (λ (x : Is). x.words_are) r };
-        few = appends.adds.all;
+        few = adds.all;
         empty = told_map told (λ (x : Is). x.empty) r;
       }
 

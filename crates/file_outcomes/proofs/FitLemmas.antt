@@ -1,5 +1,5 @@
 -- Segments that did not fit.
-use Rattle.std.proofs.Common.{◌≡◌, ◌+◌, ◌<◌, ◌++◌, ◌∷◌, [], refl, sym, ap, ap₂, ◌∙◌, subst, ⊎_elim, ℕ, true, List, length, Option, Some, arith}
+use Rattle.std.proofs.Common.{◌≡◌, ◌+◌, ◌<◌, ◌++◌, ◌∷◌, [], inl, inr, refl, sym, subst, ⊎_elim, ℕ, true, List, length, Option, Some}
 use Rattle.std.specs.Prelude.{IfSome, is_some, slice_get}
 use Rattle.std.proofs.lemmas.List.Elements.{All-weaker}
 use Rattle.std.proofs.lemmas.Option.{IfSome_then}
@@ -7,6 +7,7 @@ use mathlib.Core.List.{IsPrefix}
 use Rattle.log_seams.specs.declared.disk.Disk.{Ghosts as DiskGhosts}
 use Rattle.log_seams.specs.Disk.{DiskState, IsLawful}
 use Rattle.log_seams.specs.Outside.{Rose}
+use Rattle.message_reader.specs.Taken.{IsBeforeLong, IsReadShort}
 use Rattle.record_format.specs.declared.header.Header.{Header}
 use Rattle.row_codec.specs.declared.namer.Which.{Which}
 use Rattle.row_codec.specs.declared.namer.Which.TheVariants.{Types as WhichTypes, Words as WhichWords}
@@ -16,21 +17,29 @@ use Rattle.archive_meaning.specs.declared.entry.JournalEntry.{JournalEntry}
 use Rattle.archive_meaning.specs.declared.entry.JournalEntry.TheVariants.{Files}
 use Rattle.archive_meaning.specs.Stands.{StandsFor}
 use Rattle.archive_meaning.proofs.UniqueLemmas.{one_journal}
-use Rattle.disk_seal.specs.Told.{IfTold, journal_in}
-use Rattle.disk_seal.specs.View.{StoreView, journal_of, state_by}
+use Rattle.disk_seal.specs.Told.{IfTold}
+use Rattle.disk_seal.specs.View.{StoreView}
+use Rattle.disk_seal.proofs.ToldLemmas.{told_map}
 use Rattle.ingest_workers.specs.declared.job.Job.{Job}
-use Rattle.ingest_meaning.specs.Given.{AreFirstOf}
-use Rattle.ingest_meaning.specs.Dictionaries.{IsTextOf}
-use Rattle.ingest_workers.specs.Ingested.{HadNoRoomOver, IsLeftBy, WereGiven as WereGivenByJobs, plan_of, told_entries}
+use Rattle.ingest_workers.specs.declared.outcome.Cause.{Cause}
+use Rattle.ingest_workers.specs.Causes.{EndsLog, HasLogCause, Log}
+use Rattle.ingest_meaning.specs.Given.{AreAllOf, AreFirstOf, IsNextOf}
+use Rattle.ingest_meaning.specs.Dictionaries.{IsFullBy, IsTextOf}
+use Rattle.ingest_workers.specs.Ingested.{HadNoRoomOver, HasStored, IsFullByGiven as IsFullByJobs, IsThereOrGiven as IsThereOrGivenByJobs, WereGiven as WereGivenByJobs, plan_of, told_entries}
 use Rattle.ingest_meaning.specs.Room.{HadNoRoom}
 use Rattle.ingest_workers.specs.NoRoom.{IsBetween}
 use Rattle.ingest_workers.specs.Worker.{IsGiven as IsGivenByJobs}
+use Rattle.ingest_workers.proofs.FullLemmas.{full_by_wider}
 use Rattle.ingest_workers.proofs.NoRoomLemmas.{no_room_on}
 use Rattle.ingest_workers.proofs.SealLemmas.{if_told, of_told}
-use Rattle.command_answers.specs.Ingested.{FileOutcome, DidNotFit, HasEnded, IsGiven, LeavesJournal, Logs, StandFirst, WereGiven, names_in}
+use Rattle.name_records.specs.Left.{LeavesEntries}
+use Rattle.name_records.proofs.LeftLemmas.{prefix_on, store_entries_are, store_left}
+use Rattle.command_refusals.specs.Ending.{RoseIn}
+use Rattle.command_refusals.specs.LogLimits.{most_messages}
+use Rattle.command_answers.specs.Ingested.{FileOutcome, DidNotFit, HasEnded, HasMoreThan, IsFullBehind, IsFullByGiven, IsGiven, IsStoppedBy, IsThereOrGiven, Logs, StandFirst, WereGiven, names_in}
+use Rattle.file_outcomes.specs.Jobs.{of_cause}
 use Rattle.file_outcomes.specs.StepsCauses.{IsTarget, Target}
 use Rattle.file_outcomes.proofs.ContentLemmas.{AreJobsOf, given_of_names}
-use Rattle.file_outcomes.proofs.LeavesLemmas.{prefix_on, store_leaves}
 
 abbrev Texts : Type 0
 Texts = List (List ℕ)
@@ -73,29 +82,24 @@ fit_into logs into h before held is new c end need fit =
 
 -- ---- of jobs
 
-module _ {D : Type 0} {d : DiskGhosts D} (j after : Journal D d) (law : IsLawful (d.state after.disk.now)) (store : StoreView D) (left : IsLeftBy store j after) (told : is_some (d.state j.disk.now).seen ≡ true) where
-  leaves : LeavesJournal store.header [] (journal_of (state_by d.state store)) (d.state store.opened) (d.state store.disk)
-  leaves = store_leaves (state_by d.state store) left.kept (subst (λ (x : D). IsLawful (d.state x)) (sym left.disk) law) (ap (λ (x : D). is_some (d.state x).seen) left.opened ∙ told)
-      (λ steady. (left.again (λ late. steady (subst (λ (x : D). Rose (d.state x).faults (d.state store.disk).faults) (sym left.opened)
-      (subst (λ (x : D). Rose (d.state j.disk.now).faults (d.state x).faults) (sym left.disk) late)))).0)
-      [] (journal_of (state_by d.state store)) (journal_of (state_by d.state store)) refl refl (omega arith)
+-- what stands first in the journal that jobs were stored in stands first in the disk's
+begins_disk : {S D : Type 0} {d : DiskGhosts D} (left : S → Option (List ℕ)) (rows : ℕ) (js js' : List (Job S)) (j after : Journal D d) → IsLawful (d.state after.disk.now) → (store : StoreView D) → HasStored left (plan_of rows j) js js' j after store
+    → is_some (d.state j.disk.now).seen ≡ true → (front : Entries) → IsPrefix front (told_entries (state_of after)) → Begins j.header front (d.state after.disk.now).seen
+begins_disk {D = D} {d = d} left rows js js' j after law store stored told front begin =
+    IfSome_then (d.state after.disk.now).seen leaves.reads (λ bytes either es stands.
+    ⊎_elim
+    (λ (one : StandsFor bytes j.header all). subst (IsPrefix front) (one_journal bytes j.header j.header all es one stands).1 on)
+    (λ (more : StandsFor bytes j.header (all ++ leaves.tail)). subst (IsPrefix front) (one_journal bytes j.header j.header (all ++ leaves.tail) es more stands).1 (prefix_on front all (all ++ leaves.tail) on (leaves.tail, refl)))
+    either)
+  where
+    all : Entries
+    all = told_entries (state_of j) ++ stored.fresh
 
-  after_is : told_entries (state_of after) ≡ journal_of (state_by d.state store)
-  after_is = ap₂ (λ (x : D) (n : ℕ). journal_in (d.state x).seen n) (sym left.disk) left.count
+    leaves : LeavesEntries j.header (told_entries (state_of j)) all (d.state j.disk.now) (d.state after.disk.now)
+    leaves = store_left j after law store stored.left_by told stored.fresh stored.grown
 
-  -- what stands first in the journal stands first in the disk's
-  pub begins_disk : (front : Entries) → IsPrefix front (told_entries (state_of after)) → Begins j.header front (d.state after.disk.now).seen
-  begins_disk front begin =
-      let all = journal_of (state_by d.state store) in
-      let on : IsPrefix front all = subst (IsPrefix front) after_is begin in
-      let tail = leaves.tail in
-      subst (λ (x : D). Begins j.header front (d.state x).seen) left.disk
-      (subst (λ (x : Header). Begins x front (d.state store.disk).seen) left.header
-      (IfSome_then (d.state store.disk).seen leaves.reads (λ bytes either es stands.
-      ⊎_elim
-      (λ (one : StandsFor bytes store.header all). subst (IsPrefix front) (one_journal bytes store.header store.header all es one stands).1 on)
-      (λ (more : StandsFor bytes store.header (all ++ tail)). subst (IsPrefix front) (one_journal bytes store.header store.header (all ++ tail) es more stands).1 (prefix_on front all (all ++ tail) on (tail, refl)))
-      either)))
+    on : IsPrefix front all
+    on = subst (IsPrefix front) (store_entries_are j after store stored.left_by stored.fresh stored.grown) begin
 
 module _ {S D : Type 0} {d : DiskGhosts D} (left : S → Option (List ℕ)) (logs : Logs) (j after : Journal D d) (came : List FileOutcome) (rows first : ℕ) (js : List (Job S)) (of : AreJobsOf left j.header.version came first js) where
   text_of_names : (book : Which) (t : List ℕ) → IsTextOf j.header.version (IsGivenByJobs left j.header.version js) book t → IsTextOf j.header.version (IsGiven j.header.version came) book t
@@ -110,10 +114,10 @@ module _ {S D : Type 0} {d : DiskGhosts D} (left : S → Option (List ℕ)) (log
   }
 
   -- the segment of a job's file did not fit
-  pub fit_of_job : (law : IsLawful (d.state after.disk.now)) (store : StoreView D) → IsLeftBy store j after → (place : ℕ) (job : Job S) → slice_get js place ≡ Some job → (c : FileOutcome) → slice_get came place ≡ Some c → (bytes : Option (List ℕ)) → bytes ≡ c.log
+  fit_of_job : (law : IsLawful (d.state after.disk.now)) (js' : List (Job S)) (store : StoreView D) → HasStored left (plan_of rows j) js js' j after store → (place : ℕ) (job : Job S) → slice_get js place ≡ Some job → (c : FileOutcome) → slice_get came place ≡ Some c → (bytes : Option (List ℕ)) → bytes ≡ c.log
       → (last : Texts → Type 0) → (is_some (d.state j.disk.now).seen ≡ true → (taken : Texts) → last taken → HasEnded logs came j.header (told_entries (state_of j)) c taken) → (sealed : Texts) → c.messages ≡ length sealed → (end need : ℕ) → HadNoRoomOver (WereGivenByJobs left (plan_of rows j) js) (plan_of rows j) job.file bytes j after last sealed end need
       → (j.header.length_limit < end + need) × IfTold (is_some (d.state j.disk.now).seen) (DidNotFit logs rows first came j.header (told_entries (state_of j)) (d.state after.disk.now) c end need)
-  fit_of_job law store left_by place job at c named bytes log last ends sealed count end need had = (
+  fit_of_job law js' store stored place job at c named bytes log last ends sealed count end need had = (
     had.0,
     if_told (is_some (d.state j.disk.now).seen) _ (λ told.
         let room = of_told (is_some (d.state j.disk.now).seen) _ told had.1 in
@@ -126,7 +130,49 @@ module _ {S D : Type 0} {d : DiskGhosts D} (left : S → Option (List ℕ)) (log
             holds = subst (λ (file : ℕ). HadNoRoom j.header rows j.header.version file (StandFirst j.header (told_entries (state_of j)) (d.state after.disk.now)) (WereGiven j.header.version came) (AreFirstOf j.header.version c.log) (HasEnded logs came j.header (told_entries (state_of j)) c) sealed end need) (of.file place job at)
                 (no_room_on j.header rows j.header.version job.file (IsBetween (told_entries (state_of j)) (told_entries (state_of after))) (StandFirst j.header (told_entries (state_of j)) (d.state after.disk.now))
                 (WereGivenByJobs left (plan_of rows j) js) (WereGiven j.header.version came) (AreFirstOf j.header.version bytes) (AreFirstOf j.header.version c.log) last (HasEnded logs came j.header (told_entries (state_of j)) c) sealed end need
-                (λ es between. (between.0, begins_disk j after law store left_by told es between.1)) were_given (λ ms begin. subst (λ (b : Option (List ℕ)). AreFirstOf j.header.version b ms) log begin) (ends told) room);
+                (λ es between. (between.0, begins_disk left rows js js' j after law store stored told es between.1)) were_given (λ ms begin. subst (λ (b : Option (List ℕ)). AreFirstOf j.header.version b ms) log begin) (ends told) room);
           };
         } in fit),
   )
+
+  -- ---- one file
+
+  module _ (c : FileOutcome) where
+    abbrev full : Option (List ℕ) → Texts → Which → ℕ → Type 0
+    full = IsFullByJobs left (plan_of rows j) js j
+
+    -- a text of the encoding of a message of a job is one of a message of a given file
+    of_given : (book : Which) (t : List ℕ) → IsThereOrGivenByJobs left (plan_of rows j) js j book t → IsThereOrGiven j.header.version came (told_entries (state_of j)) book t
+    of_given book t (inl there) = inl there
+    of_given book t (inr given) = inr (text_of_names book t given)
+
+    full_behind : (bytes : Option (List ℕ)) → bytes ≡ c.log → (sealed : Texts) (book : Which) (n : ℕ) → IsFullBy (IsThereOrGivenByJobs left (plan_of rows j) js j book) (IsTextOf j.header.version (IsNextOf j.header.version bytes sealed) book) n
+        → IsFullBehind came j.header (told_entries (state_of j)) c sealed book n
+    full_behind bytes is sealed book n = full_by_wider _ _ _ _ (of_given book) (λ t next. subst (λ (o : Option (List ℕ)). IsTextOf j.header.version (IsNextOf j.header.version o sealed) book t) is next) n
+
+    -- the book was full for the job
+    pub given_full : (bytes : Option (List ℕ)) → bytes ≡ c.log → (sealed : Texts) → c.messages ≡ length sealed → (book : Which) (n : ℕ) → full bytes sealed book n
+        → IfTold (is_some (d.state j.disk.now).seen) (IsFullByGiven came j.header (told_entries (state_of j)) c book n)
+    given_full bytes is sealed count book n = told_map (is_some (d.state j.disk.now).seen) (λ by. (by.0, record { sealed = sealed; count = count; holds = full_behind bytes is sealed book n by.1 }))
+
+    module _ (log : Log) (bytes : log.bytes ≡ c.log) (up : Rose log.faults log.faults_now → RoseIn (logs.reads c.name)) where
+      -- where a job's log has ended, that of the file has
+      stopped_by : is_some (d.state j.disk.now).seen ≡ true → (taken : Texts) (cause : Cause) → HasLogCause (full log.bytes) log j.header.version taken cause → IsStoppedBy logs came j.header (told_entries (state_of j)) c taken (of_cause cause)
+      stopped_by told taken Cause.ReadFault has =
+          (up has.0, subst (λ (o : Option (List ℕ)). IfSome o (λ b. (behind : Option (List ℕ)) × IsReadShort j.header.version b taken behind)) bytes (IfSome_then log.bytes has.1 (λ b short. (log.behind, short))))
+      stopped_by told taken (Cause.LineTooLong line) has = (has.1, subst (λ (o : Option (List ℕ)). IfSome o (IsBeforeLong j.header.version taken)) bytes has.2)
+      stopped_by told taken Cause.TooManyLines has = (has.1, subst (λ (o : Option (List ℕ)). HasMoreThan most_messages j.header.version o) bytes has.2)
+      stopped_by told taken (Cause.Full book n) has = let is = of_told (is_some (d.state j.disk.now).seen) _ told has.1 in (is.0, full_behind log.bytes bytes taken book n is.1)
+      stopped_by told taken (Cause.DiskFault opened now) has = has
+      stopped_by told taken Cause.OutOfMemory has = has
+      stopped_by told taken (Cause.ArchiveFull end need) has = has
+
+      has_ended : is_some (d.state j.disk.now).seen ≡ true → (taken : Texts) → EndsLog (full log.bytes) log j.header.version taken → HasEnded logs came j.header (told_entries (state_of j)) c taken
+      has_ended told taken (inl all) = inl (subst (λ (o : Option (List ℕ)). AreAllOf j.header.version o taken) bytes all)
+      has_ended told taken (inr why) = inr (of_cause why.0, stopped_by told taken why.0 why.1)
+
+      -- the job's segment did not fit
+      pub given_room : IsLawful (d.state after.disk.now) → (js' : List (Job S)) (store : StoreView D) → HasStored left (plan_of rows j) js js' j after store → (place : ℕ) (job : Job S) → slice_get js place ≡ Some job → slice_get came place ≡ Some c
+          → (sealed : Texts) → c.messages ≡ length sealed → (end need : ℕ) → HadNoRoomOver (WereGivenByJobs left (plan_of rows j) js) (plan_of rows j) job.file log.bytes j after (EndsLog (full log.bytes) log j.header.version) sealed end need
+          → (j.header.length_limit < end + need) × IfTold (is_some (d.state j.disk.now).seen) (DidNotFit logs rows first came j.header (told_entries (state_of j)) (d.state after.disk.now) c end need)
+      given_room law js' store stored place job at named = fit_of_job law js' store stored place job at c named log.bytes bytes (EndsLog (full log.bytes) log j.header.version) has_ended

@@ -1,12 +1,8 @@
 -- What an ingest leaves of its disk, step by step.
-use Rattle.std.proofs.Common.{◌≡◌, ◌≤◌, ◌⊎◌, inl, inr, refl, sym, ap, ap₂, subst, ◌∙◌, ℕ, zero, suc, Bool, true, List, [], ◌∷◌, ◌++◌, length, take, drop, Option, Some, None, arith, append-nil, append_assoc, ⊎_elim}
+use Rattle.std.proofs.Common.{◌≡◌, ◌≤◌, ◌⊎◌, inl, inr, refl, sym, ap, ap₂, subst, ◌∙◌, ℕ, true, List, [], ◌∷◌, ◌++◌, length, Option, Some, None, arith, append-nil, append_assoc, ⊎_elim}
 use Rattle.std.specs.Prelude.{IfSome, is_some}
-use Rattle.std.proofs.lemmas.List.{length-append, length-map, take-append-drop, take_all}
+use Rattle.std.proofs.lemmas.List.{length-map}
 use Rattle.std.proofs.lemmas.Option.{IfSome_then}
-use Rattle.std.proofs.Math.Seq.{take-append_seam}
-use Rattle.std.proofs.Math.Logic.{dite}
-use Rattle.std.proofs.Math.Decide.{dec_le}
-use Rattle.std.proofs.Math.Nat.{lt_of_not-le}
 use mathlib.Core.List.{IsPrefix}
 use Rattle.log_seams.specs.declared.disk.Disk.{Ghosts as DiskGhosts}
 use Rattle.log_seams.specs.Disk.{DiskState, IsLawful, KeepsBytes, LeavesOnly, NoMore, Rests}
@@ -14,49 +10,25 @@ use Rattle.log_seams.specs.Outside.{Rose}
 use Rattle.log_seams.proofs.MomentLemmas.{joined, keeps_leave, rests_leave, rose, weaker}
 use Rattle.record_format.specs.declared.header.Header.{Header}
 use Rattle.record_format.specs.Header.{IsHeader, header_bytes}
-use Rattle.disk_journal.specs.Record.{Saved, Stands}
+use Rattle.disk_journal.specs.Record.{Stands}
 use Rattle.disk_journal.specs.Place.{AtEnd, entries}
 use Rattle.disk_journal.specs.State.{JournalState}
 use Rattle.disk_journal.specs.declared.journal.Journal.{Journal}
 use Rattle.disk_journal.specs.Journal.{state_of}
 use Rattle.archive_meaning.specs.declared.entry.JournalEntry.{JournalEntry}
 use Rattle.archive_meaning.specs.declared.entry.JournalEntry.TheVariants.{Files}
-use Rattle.archive_meaning.specs.Spelled.{record_of, records_from, records_of, types_in}
+use Rattle.archive_meaning.specs.Spelled.{records_of}
 use Rattle.archive_meaning.specs.Stands.{IsLegal, StandsFor}
-use Rattle.archive_meaning.proofs.UniqueLemmas.{legal_front, one_journal}
+use Rattle.archive_meaning.proofs.UniqueLemmas.{one_journal}
 use Rattle.disk_seal.specs.Told.{IfTold, entry_of, journal_in}
-use Rattle.disk_seal.specs.View.{HasFirst, Image, Kept, StoreState, StoreView, journal_of, state_by, tells}
+use Rattle.disk_seal.specs.View.{StoreView, journal_of, state_by}
 use Rattle.disk_seal.proofs.ToldLemmas.{length-records}
 use Rattle.ingest_workers.specs.Ingested.{IsAsItWas, IsLeftBy, told_entries}
 use Rattle.command_answers.specs.Ingested.{FromArchive, LeavesJournal, StandsForEither}
+use Rattle.name_records.specs.Left.{LeavesEntries}
+use Rattle.name_records.proofs.LeftLemmas.{between_later, store_left}
+pub use Rattle.name_records.proofs.LeftLemmas.{of_told, prefix_on, prefix_same}
 use Rattle.file_outcomes.specs.JournalLeft.{HasNames, StandsBetween, StandsStill}
-
--- ---- fronts of lists
-
-pub prefix_on : {A : Type 0} (xs ys zs : List A) → IsPrefix xs ys → IsPrefix ys zs → IsPrefix xs zs
-prefix_on xs ys zs a b = (a.0 ++ b.0, sym (append_assoc xs a.0 b.0) ∙ (ap (λ l. l ++ b.0) a.1 ∙ b.1))
-
-pub prefix_same : {A : Type 0} (xs : List A) → IsPrefix xs xs
-prefix_same xs = ([], append-nil xs)
-
--- a front stands in each longer front
-prefix_taken : {A : Type 0} (xs ys : List A) (k : ℕ) → length xs ≤ k → IsPrefix xs (take k (xs ++ ys))
-prefix_taken [] ys k low = (take k ys, refl)
-prefix_taken (x ∷ xs) ys zero low = absurd (omega (arith, low))
-prefix_taken (x ∷ xs) ys (suc k) low = let rest = prefix_taken xs ys k (omega (arith, low)) in (rest.0, ap (λ l. x ∷ l) rest.1)
-
-records_taken : (k : ℕ) (types : List (List ℕ)) (es : List JournalEntry) → take k (records_from types es) ≡ records_from types (take k es)
-records_taken zero types es = refl
-records_taken (suc k) types [] = refl
-records_taken (suc k) types (e ∷ es) = ap (λ (l : List Saved). record_of types e ∷ l) (records_taken k (types ++ types_in e) es)
-
--- bytes that stand for the first records of a legal journal stand for its first entries
-front_stands : (h : Header) (es : List JournalEntry) (c : List ℕ) (k : ℕ) → IsHeader h → IsLegal h es → Stands (header_bytes h) (take k (records_of es)) c → StandsFor c h (take k es)
-front_stands h es c k header legal stands = record {
-  header = header;
-  legal = legal_front h (take k es) (drop k es) (subst (IsLegal h) (sym (take-append-drop k es)) legal);
-  stands = subst (λ rs. Stands (header_bytes h) rs c) (records_taken k [] es) stands;
-}
 
 -- ---- what is left, from step to step
 
@@ -149,55 +121,6 @@ pub counted : (told : Option (List ℕ)) (n : ℕ) → is_some told ≡ true →
 counted None n is = absurd (cc (is))
 counted (Some bytes) n is = length-map (entries (Some bytes) n) entry_of ∙ length-records n _
 
-pub of_told : {P : Type 0} (b : Bool) → b ≡ true → IfTold b P → P
-of_told {P} b is p = subst (λ x. IfTold x P) is p
-
-either_front : (es under : List JournalEntry) (k : ℕ) → length es ≤ k → length under ≤ 1 → (take k (es ++ under) ≡ es) ⊎ (take k (es ++ under) ≡ es ++ under)
-either_front es under k low one =
-    dite (dec_le k (length es))
-    (λ (le : k ≤ length es). let same : k ≡ length es = omega (arith, le, low) in inl (ap (λ n. take n (es ++ under)) same ∙ take-append_seam es under))
-    (λ gt. inr (take_all k (es ++ under) (omega (arith, lt_of_not-le gt, one, length-append es under))))
-
-module _ (s : StoreState) (kept : Kept s) (law : IsLawful s.disk) (told : tells s ≡ true) (runs : (Rose s.opened.faults s.disk.faults → ⊥) → s.stopped ≡ None)
-    (before es rest : List JournalEntry) (are : journal_of s ≡ es) (grown : es ≡ before ++ rest) (first : length before ≤ s.first) where
-  legal : IsLegal s.header (es ++ kept.under)
-  legal = subst (λ l. IsLegal s.header (l ++ kept.under)) are (of_told (tells s) told kept.legal)
-
-  image_of : (least : ℕ) (c : List ℕ) → Image s least (journal_of s ++ kept.under) c → HasFirst (header_bytes s.header) least (es ++ kept.under) c
-  image_of least c image = subst (λ l. HasFirst (header_bytes s.header) least (l ++ kept.under) c) are (of_told (tells s) told image)
-
-  length-es : length es ≡ s.count
-  length-es = sym (ap length are) ∙ counted s.disk.seen s.count (kept.tells_still ∙ told)
-
-  now : (c : List ℕ) → s.disk.images c → StandsForEither s.header es kept.under c
-  now c image =
-      let has = image_of s.count c (kept.now c image) in
-      let stands = front_stands s.header (es ++ kept.under) c has.k kept.header legal has.stands in
-      ⊎_elim
-      (λ same. inl (subst (λ l. StandsFor c s.header l) same stands))
-      (λ same. inr (subst (λ l. StandsFor c s.header l) same stands))
-      (either_front es kept.under has.k (omega (arith, length-es, has.enough)) kept.one)
-
-  since : (c : List ℕ) → s.disk.since s.opened.clock c → StandsBetween s.header before (es ++ kept.under) c
-  since c left =
-      let has = image_of s.first c (kept.past.each c left) in
-      let all : es ++ kept.under ≡ before ++ (rest ++ kept.under) = ap (λ l. l ++ kept.under) grown ∙ append_assoc before rest kept.under in (
-        take has.k (es ++ kept.under),
-        subst (λ l. IsPrefix before (take has.k l)) (sym all) (prefix_taken before (rest ++ kept.under) has.k (omega (arith, first, has.enough))),
-        (drop has.k (es ++ kept.under), take-append-drop has.k (es ++ kept.under)),
-        front_stands s.header (es ++ kept.under) c has.k kept.header legal has.stands,
-      )
-
-  pub store_leaves : LeavesJournal s.header before es s.opened s.disk
-  store_leaves = record {
-    tail = kept.under;
-    one = kept.one;
-    none = λ steady. (kept.going (runs steady)).0;
-    reads = IfSome_then s.disk.seen law.reads_as (λ c image. now c image);
-    now = now;
-    since = since;
-  }
-
 -- ---- the ingest
 
 module _ {D : Type 0} {d : DiskGhosts D} where
@@ -211,28 +134,25 @@ module _ {D : Type 0} {d : DiskGhosts D} where
   stayed_entries before after (inr stayed) = left_entries stayed.0 before after stayed.1.left_by ∙ stayed.1.entries
 
 module _ {D : Type 0} {d : DiskGhosts D} (h : Header) (before : List JournalEntry) (names : List (List ℕ)) (j after : Journal D d) (law : IsLawful (d.state after.disk.now)) (named : HasNames h before names (state_of j)) where
-  length-named : length before ≤ j.count
-  length-named = omega (
-    arith,
-    length-append before (Files names ∷ []),
-    ap length named.entries,
-    counted (d.state j.disk.now).seen j.count named.told,
-  )
-
   -- what a store left
   pub left_leaves : (store : StoreView D) → IsLeftBy store j after → (fresh : List JournalEntry) → journal_of (state_by d.state store) ≡ told_entries (state_of j) ++ fresh
       → LeavesJournal h before (before ++ (Files names ∷ fresh)) (d.state j.disk.now) (d.state after.disk.now)
   left_leaves store left fresh grown =
-      subst (λ x. LeavesJournal x before (before ++ (Files names ∷ fresh)) (d.state j.disk.now) (d.state after.disk.now)) (left.header ∙ named.header)
-      (subst (λ (x : D). LeavesJournal store.header before (before ++ (Files names ∷ fresh)) (d.state x) (d.state after.disk.now)) left.opened
-      (subst (λ (x : D). LeavesJournal store.header before (before ++ (Files names ∷ fresh)) (d.state store.opened) (d.state x)) left.disk
-      (store_leaves (state_by d.state store) left.kept (subst (λ (x : D). IsLawful (d.state x)) (sym left.disk) law)
-      (ap (λ (x : D). is_some (d.state x).seen) left.opened ∙ named.told)
-      (λ steady. (left.again (λ late. steady (subst (λ (x : D). Rose (d.state x).faults (d.state store.disk).faults) (sym left.opened)
-      (subst (λ (x : D). Rose (d.state j.disk.now).faults (d.state x).faults) (sym left.disk) late)))).0)
-      before (before ++ (Files names ∷ fresh)) (Files names ∷ fresh)
-      (grown ∙ (ap (λ l. l ++ fresh) named.entries ∙ append_assoc before (Files names ∷ []) fresh))
-      refl (subst (λ n. length before ≤ n) (sym left.first) length-named))))
+      let named_es = before ++ Files names ∷ [] in
+      let es : told_entries (state_of j) ++ fresh ≡ before ++ (Files names ∷ fresh) = ap (λ l. l ++ fresh) named.entries ∙ append_assoc before (Files names ∷ []) fresh in
+      behind (subst (λ l. LeavesEntries h named_es l (d.state j.disk.now) (d.state after.disk.now)) es
+      (subst (λ l. LeavesEntries h l (told_entries (state_of j) ++ fresh) (d.state j.disk.now) (d.state after.disk.now)) named.entries
+      (subst (λ x. LeavesEntries x (told_entries (state_of j)) (told_entries (state_of j) ++ fresh) (d.state j.disk.now) (d.state after.disk.now)) named.header (store_left j after law store left named.told fresh grown))))
+    where
+      behind : LeavesEntries h (before ++ Files names ∷ []) (before ++ (Files names ∷ fresh)) (d.state j.disk.now) (d.state after.disk.now) → LeavesJournal h before (before ++ (Files names ∷ fresh)) (d.state j.disk.now) (d.state after.disk.now)
+      behind l = record {
+        tail = l.tail;
+        one = l.one;
+        none = l.none;
+        reads = l.reads;
+        now = l.now;
+        since = λ c left. between_later h before (before ++ Files names ∷ []) ((before ++ (Files names ∷ fresh)) ++ l.tail) c (Files names ∷ [], refl) (l.since c left);
+      }
 
   -- nothing was added
   pub same_leaves : IsLawful (d.state j.disk.now) → ((c : List ℕ) → (d.state j.disk.now).images c → StandsFor c h (before ++ Files names ∷ [])) → IsAsItWas j after

@@ -7,7 +7,9 @@ pub mod JoinLemmas
 pub mod KnownLemmas
 pub mod LeavesLemmas
 pub mod LentLemmas
+pub mod NamingLemmas
 pub mod PieceLemmas
+pub mod PrintLemmas
 pub mod RefusalLemmas
 pub mod StepsLemmas
 pub mod TakenLemmas

@@ -185,7 +185,7 @@ pub record HoldsOf (file : ℕ) (ps : List Piece) (covered : List (List ℕ)) (w
   pub ended_is : is_ended file ps ≡ ended
 
 -- pieces stand behind those of before
-pub record HasBehind (old new : Held) : Type 0 where
+record HasBehind (old new : Held) : Type 0 where
   pub more : List Piece
   pub pieces : new.pieces ≡ old.pieces ++ more
 
@@ -202,6 +202,17 @@ behind h old new (e ∷ es) run =
     let rest = behind h run.0 new es run.2 in
     record { more = one.more ++ rest.more; pieces = rest.pieces ∙ (ap (λ l. l ++ rest.more) one.pieces ∙ append_assoc old.pieces one.more rest.more) }
 
+-- where a front of the entries holds so many messages of the file as they do, these are all
+pub all_of_front : (h : Header) (es : List JournalEntry) (held : Held) (file : ℕ) (covered : List (List ℕ)) (whole ended : Bool) → Run h nothing_held es held → FrontHolds h es file covered whole ended → length (messages_of file held.pieces) ≡ length covered → messages_of file held.pieces ≡ covered
+all_of_front h es held file covered whole ended run front long =
+    let split = runs_split h nothing_held held front.front front.begins.0 (subst (λ l. Run h nothing_held l held) (sym front.begins.1) run) in
+    let same : split.0 ≡ front.holds.held = one_held h nothing_held split.0 front.holds.held front.front split.1 front.holds.run in
+    let more : HasBehind split.0 held = behind h split.0 held front.begins.0 split.2 in
+    let joined : messages_of file held.pieces ≡ covered ++ messages_of file more.more =
+    ap (messages_of file) more.pieces ∙ (messages_joined file split.0.pieces more.more ∙ ap (λ l. l ++ messages_of file more.more) (ap (λ (x : Held). messages_of file x.pieces) same ∙ front.holds.messages_are)) in
+    joined
+    ∙ (ap (λ l. covered ++ l) (nil_from_length (messages_of file more.more) (omega (arith, long, ap length joined, length-append covered (messages_of file more.more)))) ∙ append-nil covered)
+
 -- A front of the entries holds these messages of the file, and its segments have no more rows: then these are all.
 module _ (h : Header) (base fresh : List JournalEntry) (mid held : Held) (file : ℕ) (none : HasNone file mid.pieces) (ran : Run h nothing_held base mid) (run : Run h mid fresh held) where
   pub one_file : (limit : ℕ) (covered : List (List ℕ)) (whole ended : Bool) (closed : List Part) (rest : Part) → covered ≡ messages_in closed ++ rest.messages → All (IsCut limit) closed → IsOpen limit rest
@@ -214,20 +225,7 @@ module _ (h : Header) (base fresh : List JournalEntry) (mid held : Held) (file :
       (closed_tell file 0 limit closed (rest_of file (length (messages_in closed)) whole ended rest) (length rest.messages) whole (whole && ended) cut
       (rest_tells file (length (messages_in closed)) whole ended rest.rows rest.messages not_yet.even)) in
       record {
-        messages = all_messages (omega (arith, added.count, tells.rows, ap length none.messages, ap length parts, length-append (messages_in closed) rest.messages));
+        messages = all_of_front h (base ++ fresh) held file covered whole (whole && ended) (runs_go_on h nothing_held mid held base fresh ran run) front (omega (arith, added.count, tells.rows, ap length none.messages, ap length parts, length-append (messages_in closed) rest.messages));
         whole_is = added.whole ∙ ap₂ (λ a b. a || b) none.whole tells.last;
         ended_is = added.ended ∙ ap₂ (λ a b. a || b) none.ended tells.end;
       }
-    where
-      all : Run h nothing_held (base ++ fresh) held
-      all = runs_go_on h nothing_held mid held base fresh ran run
-
-      all_messages : length (messages_of file held.pieces) ≡ length covered → messages_of file held.pieces ≡ covered
-      all_messages long =
-          let split = runs_split h nothing_held held front.front front.begins.0 (subst (λ es. Run h nothing_held es held) (sym front.begins.1) all) in
-          let same : split.0 ≡ front.holds.held = one_held h nothing_held split.0 front.holds.held front.front split.1 front.holds.run in
-          let more : HasBehind split.0 held = behind h split.0 held front.begins.0 split.2 in
-          let joined : messages_of file held.pieces ≡ covered ++ messages_of file more.more =
-          ap (messages_of file) more.pieces ∙ (messages_joined file split.0.pieces more.more ∙ ap (λ l. l ++ messages_of file more.more) (ap (λ (x : Held). messages_of file x.pieces) same ∙ front.holds.messages_are)) in
-          joined
-          ∙ (ap (λ l. covered ++ l) (nil_from_length (messages_of file more.more) (omega (arith, long, ap length joined, length-append covered (messages_of file more.more)))) ∙ append-nil covered)

@@ -1,6 +1,5 @@
 -- How the journal goes on through the steps of an ingest.
 use Rattle.std.specs.Prelude.{◌≡◌, ◌⊎◌, ℕ, true, is_some, List, [], ◌∷◌, ◌++◌, length, Option, Some}
-use mathlib.Core.List.{IsPrefix}
 use Rattle.log_seams.specs.Disk.{DiskState, LeavesOnly}
 use Rattle.record_format.specs.declared.header.Header.{Header}
 use Rattle.disk_journal.specs.State.{JournalState}
@@ -8,15 +7,12 @@ use Rattle.archive_meaning.specs.declared.entry.JournalEntry.{JournalEntry}
 use Rattle.archive_meaning.specs.declared.entry.JournalEntry.TheVariants.{Files}
 use Rattle.archive_meaning.specs.Stands.{StandsFor}
 use Rattle.ingest_workers.specs.Ingested.{told_entries}
+pub use Rattle.name_records.specs.Left.{StandsBetween}
 use Rattle.command_answers.specs.Ingested.{FileOutcome, TakesIn}
 
 -- the bytes stand for the journal
 abbrev pub StandsStill : Header → List JournalEntry → List ℕ → Type 0
 StandsStill h before c = StandsFor c h before
-
--- the bytes stand for a journal between these two
-abbrev pub StandsBetween : Header → List JournalEntry → List JournalEntry → List ℕ → Type 0
-StandsBetween h before es c = (some : List JournalEntry) × IsPrefix before some × IsPrefix some es × StandsFor c h some
 
 -- the journal is told, and its entries are those of before and the names
 pub record HasNames (h : Header) (before : List JournalEntry) (names : List (List ℕ)) (j : JournalState) : Type 0 where

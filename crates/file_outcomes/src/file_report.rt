@@ -1,21 +1,23 @@
 //! What came of the files that were to be taken into an archive.
-ghost use Rattle.std.specs.Prelude.{◌≡◌, ◌≤◌};
+ghost use Rattle.std.specs.Prelude.{◌≡◌, ◌+◌, ◌^◌, ◌≤◌, List, length, option_map};
 ghost use Rattle.std.specs.List.{flat_map};
 ghost use Rattle.command_refusals.specs.Refusal.{Says};
 ghost use Rattle.file_outcomes.specs.Jobs.{of_cause};
-ghost use Rattle.file_outcomes.specs.Taken.{error_of, graver, line_of_taken, status_of_taken};
+ghost use Rattle.file_outcomes.specs.Taken.{AreToldAs, OverSinks, error_of, graver, line_of_taken, status_of_taken};
+ghost use Rattle.command_answers.specs.Ingested.{FileOutcome, PrintsCame};
 ghost use Rattle.command_answers.specs.Taken.{file_status};
 
-use command_refusals::{PartCause, refusal_of_part, report_file};
-use file_lines::Listed;
+use command_refusals::{PartCause, refusal_of_part, refusal_of_print, report, report_file};
+use file_lines::{Listed, print_directory};
 use ingest_workers::Cause;
 use log_seams::Sink;
+use std::alloc::Global;
 
 /// What came of a file that was to be taken in.
 #[derive(Clone, Copy, Debug)]
 pub struct FileReport<'a> {
     /// Its name.
-    pub name: &'a str,
+    pub name: &'a [u8],
     /// Whether its log was opened.
     pub opened: bool,
     /// How many messages of it the archive has.
@@ -30,7 +32,7 @@ impl Listed for FileReport<'_> {
     ghost listed = { line_of_taken };
 
     fn name(&self) -> &[u8] {
-        self.name.as_bytes()
+        self.name
     }
 
     fn messages(&self) -> u64 {
@@ -43,7 +45,7 @@ impl Listed for FileReport<'_> {
 }
 
 /// Why not all messages of a file were taken in, by the cause of its job.
-pub fn part_cause(cause: Cause) -> PartCause
+fn part_cause(cause: Cause) -> PartCause
     ensures { result ≡ of_cause cause }
 {
     match cause {
@@ -57,9 +59,16 @@ pub fn part_cause(cause: Cause) -> PartCause
     }
 }
 
+/// The same, if the job has a cause.
+pub fn refusal_of_cause(cause: Option<Cause>) -> Option<PartCause>
+    ensures { result ≡ option_map of_cause cause }
+{
+    Some(part_cause(cause?))
+}
+
 /// The graver of two statuses of files: a disk that failed before want of memory, and this before a log
 /// that is not whole.
-pub fn graver(one: u8, other: u8) -> u8
+fn graver(one: u8, other: u8) -> u8
     ensures { result ≡ graver one other }
 {
     match (one, other) {
@@ -80,7 +89,7 @@ fn report_one<K: Sink>(err: &mut K, file: &FileReport<'_>) -> u8
 {
     match file.refusal {
         None => 0,
-        Some(cause) => report_file(err, file.name.as_bytes(), refusal_of_part(cause)),
+        Some(cause) => report_file(err, file.name, refusal_of_part(cause)),
     }
 }
 
@@ -97,4 +106,27 @@ pub fn report_taken<K: Sink>(err: &mut K, files: &[FileReport<'_>]) -> u8
         status = graver(status, report_one(err, file));
     }
     status
+}
+
+/// Prints a line for each file, numbered on from `first`, and writes one for each that is not whole.
+/// Answers the gravest status. Where the output fails, or there is no memory for its lines, this alone
+/// is told.
+pub fn print_taken<K: Sink>(
+    alloc: Global,
+    first: u64,
+    files: &[FileReport<'_>],
+    out: &mut K,
+    err: &mut K,
+) -> u8
+    requires { first + length files.now ≤ 2 ^ 64 }
+    ensures prints { (came : List FileOutcome) → AreToldAs came files.now
+        → OverSinks K.written K.faults out.old out.new err.old err.new (λ seen.
+        PrintsCame came first seen result) }
+    ensures out { K.faults out.old ≤ K.faults out.new }
+    ensures err { K.faults err.old ≤ K.faults err.new }
+{
+    match print_directory(alloc, first, files, out) {
+        Ok(()) => report_taken(err, files),
+        Err(refusal) => report(err, "", refusal_of_print(refusal)),
+    }
 }

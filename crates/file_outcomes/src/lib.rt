@@ -7,7 +7,7 @@ mod founded;
 mod holding;
 mod journal_end;
 
-pub use file_report::{FileReport, graver, part_cause, report_taken};
+pub use file_report::{FileReport, print_taken, refusal_of_cause, report_taken};
 pub use founded::{Base, Founded, Lent, PartedJournal, part_journal};
 pub use holding::{Holding, hold};
 pub use journal_end::{JournalEnd, OpenedArchive};

@@ -1,65 +1,30 @@
 -- What the archive holds of files that were merged into it.
-use Rattle.std.proofs.Common.{◌≡◌, ◌+◌, ◌<◌, ◌≤◌, ◌&&◌, ◌||◌, refl, sym, ap, ap₂, subst, ◌∙◌, ℕ, zero, suc, Bool, false, List, [], ◌∷◌, ◌++◌, length, map, take, Some, arith, append_assoc, append-nil}
+use Rattle.std.proofs.Common.{◌≡◌, ◌+◌, ◌<◌, ◌≤◌, ◌&&◌, ◌||◌, refl, sym, ap, ap₂, subst, ◌∙◌, ℕ, zero, suc, Bool, false, List, [], ◌∷◌, ◌++◌, length, map, take, Some, arith}
 use Rattle.std.specs.Prelude.{All, slice_get}
 use Rattle.std.specs.List.{filter_map, list_any, sum_by}
-use Rattle.std.proofs.lemmas.List.{length-append, nil_from_length}
 use Rattle.std.proofs.lemmas.List.Sums.{sum_by-cons}
 use mathlib.Core.List.{IsPrefix}
 use Rattle.record_format.specs.declared.header.Header.{Header}
 use Rattle.archive_meaning.specs.declared.entry.SegmentEntry.{SegmentEntry}
 use Rattle.archive_meaning.specs.declared.entry.JournalEntry.{JournalEntry}
-use Rattle.archive_meaning.specs.declared.entry.JournalEntry.TheVariants.{Files, Types, Words, Segment}
 use Rattle.archive_meaning.specs.Held.{File, Held, Piece, content_of, files_from, is_ended, is_whole, messages_of, nothing_held}
-use Rattle.archive_meaning.specs.Legal.{Accepts, Run, piece_of}
-use Rattle.archive_meaning.specs.Spelled.{types_of}
+use Rattle.archive_meaning.specs.Legal.{Run}
 use Rattle.archive_meaning.specs.Stands.{IsLegal, StandsFor}
-use Rattle.archive_meaning.proofs.RunLemmas.{one_held, runs_split}
-use Rattle.archive_meaning.proofs.SumsLemmas.{messages_joined}
+use Rattle.archive_meaning.proofs.RunLemmas.{one_held}
 use Rattle.archive_open.specs.Shown.{counted}
 use Rattle.archive_open.specs.declared.files.FileEntry.{FileEntry}
 use Rattle.ingest_meaning.specs.Parts.{in_file}
-use Rattle.ingest_meaning.specs.WordsIn.{words_of}
 use Rattle.ingest_workers.specs.Journal.{FrontHolds}
 use Rattle.archive_merge.specs.Named.{AreNamesOf}
 use Rattle.archive_merge.specs.declared.file.Merged.{Merged}
 use Rattle.file_lines.specs.Directory.{FileLine, line_of_file}
 use Rattle.command_answers.specs.Merging.{AreFrontsOf, name_alone}
 use Rattle.merge_command.specs.Came.{lines_by}
-use Rattle.file_outcomes.proofs.JoinLemmas.{HasNone, content_grows, new_file, with_names}
-use Rattle.file_outcomes.proofs.PieceLemmas.{HasBehind, HasGrown, HasSegments, HoldsOf, IsNewFrom, grown, has_ended, has_last, rows_in, segments_held}
-
--- ---- the names
-
-with_these : (held : Held) (names : List (List ℕ)) → names ≡ held.names → record held { names = names } ≡ held
-with_these held names same = ap (λ ns. record held { names = ns }) same
-
-run_names : (h : Header) (held : Held) (es : List JournalEntry) (names : List (List ℕ)) (more : Held) → AreNamesOf es names → Run h held es more → more ≡ with_names held names
-run_names h held [] names more none run = run ∙ sym (with_these held (held.names ++ names) (ap (λ ns. held.names ++ ns) none ∙ append-nil held.names))
-run_names h held (Files some ∷ es) names more are run =
-    let rest = are.2.0 in
-    let later = run_names h run.0 es rest more are.2.2 run.2 in
-    later
-    ∙ (ap (λ (x : Held). with_names x rest) run.1
-    ∙ ap (λ ns. record held { names = ns }) (append_assoc held.names some rest ∙ ap (λ ns. held.names ++ ns) (sym are.2.1)))
-run_names h held (Types number texts ∷ es) names more are run = absurd are
-run_names h held (Words number texts ∷ es) names more are run = absurd are
-run_names h held (Segment s ∷ es) names more are run = absurd are
+use Rattle.file_outcomes.proofs.JoinLemmas.{HasNone, new_file, with_names}
+use Rattle.file_outcomes.proofs.NamingLemmas.{content_of_new, run_behind, run_names}
+use Rattle.file_outcomes.proofs.PieceLemmas.{HasSegments, HoldsOf, IsNewFrom, all_of_front, has_ended, has_last, rows_in, segments_held}
 
 -- ---- the segments of a file
-
--- pieces stand behind those of before
-behind_step : (h : Header) (old mid : Held) (e : JournalEntry) → Accepts h old e mid → HasBehind old mid
-behind_step h old mid (Files names) takes = subst (HasBehind old) (sym takes) (record { more = []; pieces = sym (append-nil old.pieces) })
-behind_step h old mid (Types number texts) takes = subst (HasBehind old) (sym takes.1) (record { more = []; pieces = sym (append-nil old.pieces) })
-behind_step h old mid (Words number texts) takes = subst (HasBehind old) (sym takes.1) (record { more = []; pieces = sym (append-nil old.pieces) })
-behind_step h old mid (Segment s) takes = subst (HasBehind old) (sym takes.2) (record { more = piece_of s takes.0 ∷ []; pieces = refl })
-
-behind : (h : Header) (old new : Held) (es : List JournalEntry) → Run h old es new → HasBehind old new
-behind h old new [] run = subst (HasBehind old) (sym run) (record { more = []; pieces = sym (append-nil old.pieces) })
-behind h old new (e ∷ es) run =
-    let one = behind_step h old run.0 e run.1 in
-    let rest = behind h run.0 new es run.2 in
-    record { more = one.more ++ rest.more; pieces = rest.pieces ∙ (ap (λ l. l ++ rest.more) one.pieces ∙ append_assoc old.pieces one.more rest.more) }
 
 abbrev rows_of : SegmentEntry → ℕ
 rows_of s = length s.rows
@@ -83,31 +48,11 @@ module _ (h : Header) (before naming fresh : List JournalEntry) (names : List (L
   abbrev pub first : ℕ
   first = length stood.legal.held.names
 
-  abbrev mid : Held
-  mid = with_names stood.legal.held names
-
-  run_behind : Run h stood.legal.held (naming ++ fresh) legal.held
-  run_behind =
-      let split = runs_split h nothing_held legal.held before (naming ++ fresh) legal.run in
-      subst (λ (x : Held). Run h x (naming ++ fresh) legal.held) (one_held h nothing_held split.0 stood.legal.held before split.1 stood.legal.run) split.2
-
-  run_of_new : Run h mid fresh legal.held
-  run_of_new =
-      let split = runs_split h stood.legal.held legal.held naming fresh run_behind in
-      subst (λ (x : Held). Run h x fresh legal.held) (run_names h stood.legal.held naming names split.0 named split.1) split.2
-
-  grown_of_new : HasGrown first mid legal.held
-  grown_of_new = grown h first mid legal.held fresh run_of_new new
-
-  -- the old files stay, and behind them stand the new ones
-  pub content_of_new : content_of legal.held ≡ content_of stood.legal.held ++ files_from first names legal.held.pieces
-  content_of_new =
-      ap₂ (λ ns ps. files_from 0 ns ps) grown_of_new.names grown_of_new.pieces
-      ∙ (content_grows stood.legal.held.names names stood.legal.held.pieces grown_of_new.more grown_of_new.from
-      ∙ ap (λ ps. content_of stood.legal.held ++ files_from first names ps) (sym grown_of_new.pieces))
+  runs : (more : Held) → Run h stood.legal.held naming more → more ≡ with_names stood.legal.held names
+  runs more run = run_names h stood.legal.held naming names more named run
 
   pub content_is : (image : List ℕ) (stands : StandsFor image h (before ++ (naming ++ fresh))) → content_of stands.legal.held ≡ content_of stood.legal.held ++ files_from first names legal.held.pieces
-  content_is image stands = ap content_of (one_held h nothing_held stands.legal.held legal.held (before ++ (naming ++ fresh)) stands.legal.run legal.run) ∙ content_of_new
+  content_is image stands = ap content_of (one_held h nothing_held stands.legal.held legal.held (before ++ (naming ++ fresh)) stands.legal.run legal.run) ∙ content_of_new h before naming fresh names stood runs legal new
 
   -- A front of the journal holds these messages of a new file, and its segments have no more rows: then these are all.
   pub holds : (i : ℕ) → i < length names → (covered : List (List ℕ)) (whole ended : Bool) (segments : List SegmentEntry) → sum_by rows_of segments ≡ length covered
@@ -115,7 +60,7 @@ module _ (h : Header) (before naming fresh : List JournalEntry) (names : List (L
       → filter_map (in_file (first + i)) (naming ++ fresh) ≡ segments → FrontHolds h (before ++ (naming ++ fresh)) (first + i) covered whole (whole && ended)
       → HoldsOf (first + i) legal.held.pieces covered whole (whole && ended)
   holds i within covered whole ended segments rows last end sealed front = record {
-    messages = all_messages (omega (arith, added.count, ap length none.messages, rows_same segments, rows));
+    messages = all_of_front h (before ++ (naming ++ fresh)) legal.held (first + i) covered whole (whole && ended) legal.run front (omega (arith, added.count, ap length none.messages, rows_same segments, rows));
     whole_is = added.whole ∙ (ap (λ b. b || has_last segments) none.whole ∙ (last_same segments ∙ last));
     ended_is = added.ended ∙ (ap (λ b. b || has_ended segments) none.ended ∙ (ended_same segments ∙ end));
   }
@@ -124,34 +69,7 @@ module _ (h : Header) (before naming fresh : List JournalEntry) (names : List (L
       none = (new_file h before names stood.legal i within).none
 
       added : HasSegments (first + i) segments stood.legal.held.pieces legal.held.pieces
-      added = subst (λ ss. HasSegments (first + i) ss stood.legal.held.pieces legal.held.pieces) sealed (segments_held h (first + i) stood.legal.held legal.held (naming ++ fresh) run_behind)
-
-      all_messages : length (messages_of (first + i) legal.held.pieces) ≡ length covered → messages_of (first + i) legal.held.pieces ≡ covered
-      all_messages long =
-          let split = runs_split h nothing_held legal.held front.front front.begins.0 (subst (λ es. Run h nothing_held es legal.held) (sym front.begins.1) legal.run) in
-          let same : split.0 ≡ front.holds.held = one_held h nothing_held split.0 front.holds.held front.front split.1 front.holds.run in
-          let more : HasBehind split.0 legal.held = behind h split.0 legal.held front.begins.0 split.2 in
-          let joined : messages_of (first + i) legal.held.pieces ≡ covered ++ messages_of (first + i) more.more =
-          ap (messages_of (first + i)) more.pieces ∙ (messages_joined (first + i) split.0.pieces more.more ∙ ap (λ l. l ++ messages_of (first + i) more.more) (ap (λ (x : Held). messages_of (first + i) x.pieces) same ∙ front.holds.messages_are)) in
-          joined
-          ∙ (ap (λ l. covered ++ l) (nil_from_length (messages_of (first + i) more.more) (omega (arith, long, ap length joined, length-append covered (messages_of (first + i) more.more)))) ∙ append-nil covered)
-
--- ---- the texts that were added
-
--- records of names add none
-pub types_behind : (naming fresh : List JournalEntry) (names : List (List ℕ)) → AreNamesOf naming names → types_of (naming ++ fresh) ≡ types_of fresh
-types_behind [] fresh names are = refl
-types_behind (Files some ∷ naming) fresh names are = types_behind naming fresh are.2.0 are.2.2
-types_behind (Types number texts ∷ naming) fresh names are = absurd are
-types_behind (Words number texts ∷ naming) fresh names are = absurd are
-types_behind (Segment s ∷ naming) fresh names are = absurd are
-
-pub words_behind : (naming fresh : List JournalEntry) (names : List (List ℕ)) → AreNamesOf naming names → words_of (naming ++ fresh) ≡ words_of fresh
-words_behind [] fresh names are = refl
-words_behind (Files some ∷ naming) fresh names are = words_behind naming fresh are.2.0 are.2.2
-words_behind (Types number texts ∷ naming) fresh names are = absurd are
-words_behind (Words number texts ∷ naming) fresh names are = absurd are
-words_behind (Segment s ∷ naming) fresh names are = absurd are
+      added = subst (λ ss. HasSegments (first + i) ss stood.legal.held.pieces legal.held.pieces) sealed (segments_held h (first + i) stood.legal.held legal.held (naming ++ fresh) (run_behind h before naming fresh names stood runs legal new))
 
 -- ---- beside the second archive
 
@@ -170,10 +88,6 @@ pub record IsFrontAt (ps qs : List Piece) (file number : ℕ) : Type 0 where
 pub record IsNoneAt (ps : List Piece) (file : ℕ) : Type 0 where
   pub messages : messages_of file ps ≡ []
   pub part : (is_whole file ps ≡ false) × (is_ended file ps ≡ false)
-
-pub length-files : (k : ℕ) (names : List (List ℕ)) (ps : List Piece) → length (files_from k names ps) ≡ length names
-length-files k [] ps = refl
-length-files k (name ∷ names) ps = ap suc (length-files (k + 1) names ps)
 
 -- files of which there is nothing
 names_alone : (first : ℕ) (ps qs : List Piece) (k n : ℕ) (names : List (List ℕ)) → n ≤ length names → ((i : ℕ) → i < n → IsNoneAt ps (first + (k + i)))

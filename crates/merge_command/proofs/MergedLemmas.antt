@@ -2,7 +2,7 @@
 use Rattle.std.proofs.Common.{◌≡◌, ◌≢◌, ◌+◌, ◌-◌, ◌<◌, ◌≤◌, inl, inr, refl, sym, ap, ap₂, subst, ◌∙◌, ℕ, true, List, [], ◌∷◌, ◌++◌, length, take, drop, Option, Some, None, arith}
 use Rattle.std.specs.Prelude.{All, is_some, slice_get}
 use Rattle.std.specs.List.{Contains, filter_map}
-use Rattle.std.proofs.lemmas.List.Elements.{All-append, All-nil}
+use Rattle.std.proofs.lemmas.List.Elements.{All-nil}
 use Rattle.log_seams.specs.Disk.{DiskState, IsLawful, KeepsBytes}
 use Rattle.log_seams.specs.Outside.{Rose}
 use Rattle.log_seams.specs.declared.disk.Disk.{Ghosts as DiskGhosts}
@@ -15,15 +15,13 @@ use Rattle.ingest_meaning.specs.declared.refusal.RegisterRefusal.{RegisterRefusa
 use Rattle.ingest_meaning.specs.declared.refusal.RegisterRefusal.TheVariants.{DiskFault}
 use Rattle.row_codec.specs.declared.namer.Which.{Which}
 use Rattle.archive_meaning.specs.declared.entry.JournalEntry.{JournalEntry}
-use Rattle.archive_meaning.specs.declared.entry.JournalEntry.TheVariants.{Files, Types, Words, Segment}
 use Rattle.archive_meaning.specs.Held.{Held, nothing_held}
-use Rattle.archive_meaning.specs.Legal.{AreNamed, Run}
 use Rattle.archive_meaning.specs.Spelled.{end_of}
 use Rattle.archive_meaning.specs.Stands.{StandsFor}
 use Rattle.archive_open.specs.Kept.{Kept}
 use Rattle.archive_open.specs.declared.segments.SegmentPlace.{SegmentPlace}
 use Rattle.ingest_meaning.specs.Parts.{in_file}
-use Rattle.archive_open.specs.Shown.{HasLastGate, IsArchiveOf, IsGate, Opens, RefusedAt, Shown, StandsForNone}
+use Rattle.archive_open.specs.Shown.{HasLastGate, IsArchiveOf, Opens, RefusedAt, Shown, StandsForNone}
 use Rattle.archive_open.specs.declared.files.FileEntry.{FileEntry}
 use Rattle.ingest_meaning.specs.Room.{files_size}
 use Rattle.ingest_workers.specs.Ingested.{told_entries}
@@ -44,6 +42,7 @@ use Rattle.command_answers.specs.Ingested.{FromArchive}
 use Rattle.command_answers.specs.Merging.{HasDiskCause, HasJournalCause, IsNeeded, IsStopped, LacksRoom, MayCome, Merge, TakesOver}
 use Rattle.merge_command.specs.Came.{lines_by, name_at, name_in, place_stopped, refusal_by}
 use Rattle.file_outcomes.specs.JournalLeft.{StandsBetween}
+use Rattle.file_outcomes.proofs.NamingLemmas.{names_grow, refused_last}
 use Rattle.file_outcomes.proofs.LeavesLemmas.{begun_sooner, from_archive, of_told, prefix_same, still_between}
 use Rattle.merge_command.proofs.CauseLemmas.{full_of_both, lacks_room, line_at, line_told, texts_same}
 use Rattle.merge_command.proofs.OverLemmas.{names_shown}
@@ -52,20 +51,7 @@ use Rattle.merge_command.proofs.SegmentLemmas.{needed_theirs}
 
 -- ---- bytes that stand for no journal
 
--- a legal archive's names are short
-names_grow : (h : Header) (held more : Held) (es : List JournalEntry) (count : ℕ) → Run h held es more → AreNamed count es → All IsShort held.names → All IsShort more.names
-names_grow h held more [] count run named short = subst (λ (x : Held). All IsShort x.names) (sym run) short
-names_grow h held more (Files names ∷ es) count run named short =
-    names_grow h run.0 more es (count + length names) run.2 named.4
-    (subst (λ (x : Held). All IsShort x.names) (sym run.1) (All-append IsShort held.names names short named.2))
-names_grow h held more (Types first texts ∷ es) count run named short =
-    names_grow h run.0 more es count run.2 named (subst (λ (x : Held). All IsShort x.names) (sym run.1.1) short)
-names_grow h held more (Words first texts ∷ es) count run named short =
-    names_grow h run.0 more es count run.2 named (subst (λ (x : Held). All IsShort x.names) (sym run.1.1) short)
-names_grow h held more (Segment s ∷ es) count run named short =
-    names_grow h run.0 more es count run.2 named.1 (subst (λ (x : Held). All IsShort x.names) (sym run.1.2) short)
-
--- so bytes whose archive has a long name stand for none
+-- bytes whose archive has a long name stand for none
 long_none : (b : Shown) (bytes : List ℕ) → Opens (Some bytes) b → ¬ All IsShort (names_of b.files) → StandsForNone bytes
 long_none b bytes opens long = λ h es stands.
     long (subst (All IsShort) (sym (names_shown b h es stands.legal.held (opens h es stands)))
@@ -81,15 +67,6 @@ damaged_none runs fair s b file bytes view opens cause = λ h es stands.
     (subst (λ (v : SecondView). All IsFairType v.texts.types) (sym view) texts.0)
     (subst (λ (v : SecondView). All IsFairWord v.texts.words) (sym view) texts.1)
     (held_of file stands.legal.held) (subst (λ v. HasRun v file (held_of file stands.legal.held)) (sym view) (runs bytes h es b file stands is))
-
--- the last gate of an archive is told where its bytes stand for none
-refused_last : (told : Option (List ℕ)) (b : Shown) (last : ℕ) → last ≡ b.end - 1 → HasLastGate told b → ((bytes : List ℕ) → told ≡ Some bytes → StandsForNone bytes) → RefusedAt last told
-refused_last None b last same gate none = tt
-refused_last (Some bytes) b last same gate none = record {
-  none = none bytes refl;
-  behind = λ first damage. subst (λ n. first ≤ n) (sym same) (gate.behind first damage);
-  gate = inr (subst (λ n. IsGate n bytes) (sym same) gate.gate);
-}
 
 -- ---- the causes
 

@@ -33,7 +33,8 @@ use Rattle.command_answers.specs.Merging.{AreFrontsOf, AreSegmentsAs}
 use Rattle.merge_command.specs.Came.{lines_by}
 use Rattle.file_outcomes.proofs.LeavesLemmas.{of_told}
 use Rattle.file_outcomes.proofs.PieceLemmas.{HoldsOf, IsNewFrom}
-use Rattle.merge_command.proofs.ContentLemmas.{IsFrontAt, IsNoneAt, IsSameAt, all_same, content_is, fronts_are, holds, length-files, line_of_held, told_lines}
+use Rattle.merge_command.proofs.ContentLemmas.{IsFrontAt, IsNoneAt, IsSameAt, all_same, content_is, fronts_are, holds, line_of_held, told_lines}
+use Rattle.file_outcomes.proofs.AppendLemmas.{length-files}
 use Rattle.merge_command.proofs.SegmentLemmas.{cuts_theirs}
 
 -- ---- what the disk is left with

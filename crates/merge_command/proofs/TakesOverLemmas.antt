@@ -34,7 +34,7 @@ use Rattle.command_answers.specs.Merging.{HasJournalCause, IsNeeded, MayCome, Me
 use Rattle.merge_command.specs.Came.{lines_by}
 use Rattle.file_outcomes.proofs.LeavesLemmas.{of_told, opened_as}
 use Rattle.file_outcomes.proofs.PieceLemmas.{IsNewFrom}
-use Rattle.merge_command.proofs.ContentLemmas.{types_behind, words_behind}
+use Rattle.file_outcomes.proofs.NamingLemmas.{types_behind, words_behind}
 use Rattle.merge_command.proofs.CauseLemmas.{line_told}
 use Rattle.merge_command.proofs.MergedLemmas.{over_stood}
 use Rattle.merge_command.proofs.SegmentLemmas.{needed_theirs}

@@ -19,11 +19,7 @@ use Rattle.file_lines.specs.Directory.{FileLine}
 use Rattle.command_refusals.specs.Outcome.{merge_from_register}
 use Rattle.command_refusals.specs.declared.outcome.MergeRefusal.{MergeRefusal}
 use Rattle.command_answers.specs.Merging.{IsOfSecond, Merge}
-use Rattle.merge_command.specs.declared.lines.NewFile.{NewFile}
 use Rattle.merge_command.specs.declared.over.Came.{Came}
-
-abbrev pub line_of_new : NewFile → FileLine
-line_of_new f = record { name = f.name.now; messages = f.messages; whole = f.whole }
 
 -- each file of the second archive with what was merged of it
 abbrev pub lines_by : List FileEntry → List Merged → List FileLine

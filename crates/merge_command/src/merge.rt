@@ -6,7 +6,7 @@ ghost use Rattle.command_refusals.specs.GoesOn.{DiskGoesOn};
 ghost use Rattle.command_refusals.specs.Outside.{AroundSinks};
 ghost use Rattle.command_refusals.specs.Reading.{IsArchive};
 ghost use Rattle.command_answers.specs.Answers.{AnswersMerge};
-ghost use Rattle.command_answers.specs.Known.{over, told_if};
+ghost use Rattle.command_answers.specs.Known.{told_if};
 ghost use Rattle.command_answers.specs.Merging.{Merges, PrintsMerge, TellsInOrder, merged_line, merged_status};
 ghost use Rattle.command_refusals.specs.Refusal.{Says};
 ghost use Rattle.merge_command.specs.Came.{ComesBehind, kept_by, merge_by, merge_of, refused_by};
@@ -133,34 +133,6 @@ fn add_lent<D: Disk, E: Disk, R: Wait, L: Lent>(
     answer
 }
 
-/// Adds the files of the second archive behind those of the archive of any disk. What is said of
-/// the disk's bytes is said where they are those of the archive that is known.
-fn add_known<D: Disk, E: Disk, R: Wait, B: Base>(
-    rt: &R,
-    alloc: Global,
-    disk: &mut D,
-    second: &mut E,
-) -> Result<Came, MergeRefusal>
-    // by the answer
-    ensures came { IfOk result (λ came. Merges (merge_of came) came.first
-        (over B.archive (D.state disk.old) (D.state disk.old))
-        (over B.archive (D.state disk.old) (D.state disk.new))
-        (E.state second.old) (E.state second.new)) }
-    ensures few { IfOk result (λ came.
-        length came.files.items ≤ length (shown kept_by came.second).files) }
-    ensures refused { IfErr result (λ refusal. Merges (refused_by refusal) 0
-        (over B.archive (D.state disk.old) (D.state disk.old))
-        (over B.archive (D.state disk.old) (D.state disk.new))
-        (E.state second.old) (E.state second.new)) }
-    ensures in_order { TellsInOrder (merge_by result) (D.state disk.old) (D.state disk.new) }
-
-    // what stays
-    ensures goes_on { DiskGoesOn (D.state disk.old) (D.state disk.new) }
-    ensures second { DiskGoesOn (E.state second.old) (E.state second.new) }
-{
-    add_lent::<D, E, R, Brand>(rt, alloc, disk, second)
-}
-
 /// Adds the files of the second archive behind those of the archive, and prints a line for each new
 /// file. The second disk is only read.
 pub fn merge_archives<R: Wait, D: Disk, E: Disk, K: Sink, B: Base>(
@@ -181,7 +153,8 @@ pub fn merge_archives<R: Wait, D: Disk, E: Disk, K: Sink, B: Base>(
     ensures out { K.faults out.old ≤ K.faults out.new }
     ensures err { K.faults err.old ≤ K.faults err.new }
 {
-    match add_known::<D, E, R, B>(rt, alloc, disk, second) {
+    // what is said of the disk's bytes is said where they are those of the archive that is known
+    match add_lent::<D, E, R, Brand>(rt, alloc, disk, second) {
         Ok(came) => print_came(alloc, &came, out, err),
         Err(refusal) => report_merge(err, b"", refusal),
     }

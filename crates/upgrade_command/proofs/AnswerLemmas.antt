@@ -1,7 +1,6 @@
 -- What `upgrade` answers, from what its steps leave.
-use Rattle.std.proofs.Common.{◌≡◌, ◌⊎◌, ◌≤◌, ◌<◌, ◌==◌, ◌||◌, inl, inr, ⊎_elim, refl, ap, ap₂, subst, ◌∙◌, ℕ, Bool, true, false, if◌then◌else◌, List, [], ◌∷◌, ◌++◌, length, map, Option, Some, None, arith}
+use Rattle.std.proofs.Common.{◌≡◌, ◌⊎◌, ◌≤◌, ◌<◌, ◌==◌, ◌||◌, inl, inr, ⊎_elim, refl, sym, ap, ap₂, subst, ◌∙◌, ℕ, Bool, true, false, if◌then◌else◌, List, [], ◌∷◌, length, map, Option, Some, None, arith}
 use Rattle.std.specs.Prelude.{All, IfSome}
-use Rattle.std.specs.List.{flat_map}
 use Rattle.std.proofs.lemmas.List.Elements.{All-head, All-nil, All-tail, All-weaker, All-cons}
 use Rattle.std.proofs.lemmas.Option.{IfSome_then}
 use Rattle.log_seams.specs.Disk.{DiskState, IsLawful, KeepsBytes, Rests}
@@ -14,8 +13,9 @@ use Rattle.archive_meaning.specs.Stands.{StandsFor}
 use Rattle.archive_meaning.specs.declared.entry.JournalEntry.{JournalEntry}
 use Rattle.archive_open.specs.Shown.{Opens, RefusedAt, Shown}
 use Rattle.search_meaning.specs.Journal.{OfJournal}
-use Rattle.sink_pieces.specs.Output.{Grew, GrewByFront}
-use Rattle.file_lines.specs.Directory.{FileLine, directory_from}
+use Rattle.sink_pieces.specs.Output.{GrewByFront}
+use Rattle.sink_pieces.proofs.OutputLemmas.{Grew-nothing}
+use Rattle.file_lines.specs.Directory.{directory_from}
 use Rattle.command_refusals.specs.Ending.{EndsWith, RoseIn, SaysIn, Stayed, TookNothing}
 use Rattle.command_refusals.specs.Outcome.{of_upgrade}
 use Rattle.command_refusals.specs.Outside.{Outside}
@@ -25,11 +25,10 @@ use Rattle.command_refusals.specs.declared.outcome.UpgradeRefusal.{UpgradeRefusa
 use Rattle.command_refusals.specs.GoesOn.{DiskGoesOn}
 use Rattle.command_refusals.proofs.GoingLemmas.{DiskGoesOn-seen, KeepsBytes-same}
 use Rattle.command_answers.specs.Ingested.{FileOutcome, PrintsCame, line_of_came}
-use Rattle.command_answers.specs.Taken.{file_error, file_status, gravest, has}
+use Rattle.command_answers.specs.Taken.{file_status, gravest, has}
 use Rattle.command_answers.specs.Answers.{AnswersUpgrade}
 use Rattle.command_answers.specs.Upgrading.{AreOlder, CameOfText, EndsTexts, EndsUpgrade, FromNew, HasTextCause, IsHeaderFor, MadeNone, MakesNew, MeetsNone, MetNone, NamedNotAll, NamesMetNone, NamesSome, PrintsUpgrade, header_for}
-use Rattle.ingest_workers.specs.declared.outcome.Outcome.{Outcome}
-use Rattle.upgrade_command.specs.Files.{bare, bares_by}
+use Rattle.file_outcomes.specs.declared.file_report.FileReport.{FileReport}
 use Rattle.upgrade_command.specs.Old.{IsOld, RefusesOld}
 use Rattle.upgrade_command.specs.Taking.{MakesNone, TakesFiles, TakesNone}
 
@@ -152,6 +151,15 @@ complete rows seen old new second second_new status (inr (inr done)) bytes h es 
 pub answered : (rows : ℕ) (seen : Outside) (old new second second_new : DiskState) (status : ℕ) → KeepsBytes old new → EndsUpgrade rows seen old new second second_new status → AnswersUpgrade rows seen old new second second_new status
 answered rows seen old new second second_new status keeps ends = record { ends = ends; keeps = keeps; complete = complete rows seen old new second second_new status ends }
 
+-- the archive ended it, which alone is printed
+pub printed_stop : (seen : Outside) (status : ℕ) (stop : UpgradeRefusal) (came : List FileOutcome) → status ≡ status_of (of_upgrade stop) → SaysIn seen (line_of [] (of_upgrade stop)) → seen.out.1 ≡ seen.out.0 → Stayed seen.out_faults → PrintsUpgrade (Some stop) came seen status
+printed_stop seen status stop came is said same stayed =
+    (subst (λ (o : Option (List ℕ)). GrewByFront seen.out.0 o (directory_from 0 (map line_of_came came))) (sym same) ([], directory_from 0 (map line_of_came came), refl, Grew-nothing seen.out.0), inl (record { status_is = is; said = said }, stayed))
+
+-- nothing stopped it
+pub printed_on : (seen : Outside) (status : ℕ) (stop : Option UpgradeRefusal) (came : List FileOutcome) → stop ≡ None → PrintsCame came 0 seen status → PrintsUpgrade stop came seen status
+printed_on seen status stop came none printed = subst (λ (s : Option UpgradeRefusal). PrintsUpgrade s came seen status) (sym none) printed
+
 -- a disk that was only read, over two calls
 pub looked_on : (old mid new : DiskState) → IsLawful old → IsLawful new → KeepsBytes old mid → old.faults ≤ mid.faults → Rests mid new → mid.faults ≤ new.faults → DiskGoesOn old new
 looked_on old mid new law law_new keeps low rests more =
@@ -233,47 +241,10 @@ module _ (rows : ℕ) (seen : Outside) (old mid new second second_new : DiskStat
   stop_on (UpgradeRefusal.NotEmpty len) cause = cause
   stop_on (UpgradeRefusal.ArchiveFull end need) cause = cause
 
-  -- what is printed is told of the files
-  module _ (bares came : List FileOutcome) (same : bares ≡ map bare came) where
-    lines_same : map line_of_came bares ≡ map line_of_came came
-    lines_same = ap (map line_of_came) same ∙ bare_lines came
-      where
-        bare_lines : (cs : List FileOutcome) → map line_of_came (map bare cs) ≡ map line_of_came cs
-        bare_lines [] = refl
-        bare_lines (c ∷ cs) = ap (λ (ls : List FileLine). line_of_came c ∷ ls) (bare_lines cs)
-
-    statuses_same : map (λ (c : FileOutcome). file_status c.refusal) bares ≡ map (λ (c : FileOutcome). file_status c.refusal) came
-    statuses_same = ap (map (λ (c : FileOutcome). file_status c.refusal)) same ∙ bare_statuses came
-      where
-        bare_statuses : (cs : List FileOutcome) → map (λ (c : FileOutcome). file_status c.refusal) (map bare cs) ≡ map (λ (c : FileOutcome). file_status c.refusal) cs
-        bare_statuses [] = refl
-        bare_statuses (c ∷ cs) = ap (λ (ns : List ℕ). file_status c.refusal ∷ ns) (bare_statuses cs)
-
-    errors_same : flat_map (λ (c : FileOutcome). file_error c.name c.refusal) bares ≡ flat_map (λ (c : FileOutcome). file_error c.name c.refusal) came
-    errors_same = ap (flat_map (λ (c : FileOutcome). file_error c.name c.refusal)) same ∙ bare_errors came
-      where
-        bare_errors : (cs : List FileOutcome) → flat_map (λ (c : FileOutcome). file_error c.name c.refusal) (map bare cs) ≡ flat_map (λ (c : FileOutcome). file_error c.name c.refusal) cs
-        bare_errors [] = refl
-        bare_errors (c ∷ cs) = ap (λ (text : List ℕ). file_error c.name c.refusal ++ text) (bare_errors cs)
-
-    front_same : GrewByFront seen.out.0 seen.out.1 (directory_from 0 (map line_of_came bares)) → GrewByFront seen.out.0 seen.out.1 (directory_from 0 (map line_of_came came))
-    front_same = subst (λ (ls : List FileLine). GrewByFront seen.out.0 seen.out.1 (directory_from 0 ls)) lines_same
-
-    prints_same : (stop : Option UpgradeRefusal) → PrintsUpgrade stop bares seen status → PrintsUpgrade stop came seen status
-    prints_same None (inl all) = inl (
-      all.0 ∙ ap gravest statuses_same,
-      subst (λ (ls : List FileLine). Grew seen.out.0 seen.out.1 (directory_from 0 ls)) lines_same all.1,
-      subst (λ text. SaysIn seen text) errors_same all.2,
-      all.3,
-    )
-    prints_same None (inr (inl failed)) = inr (inl (failed.0, front_same failed.1, failed.2))
-    prints_same None (inr (inr memory)) = inr (inr (memory.0, front_same memory.1, memory.2))
-    prints_same (Some stop) (front, how) = (front_same front, how)
-
   -- the files were taken in
-  pub files_taken : (stop : Option UpgradeRefusal) (outcomes : List Outcome) → IfSome stop (EndsTexts mid new) → TakesFiles rows stop header a.files outcomes mid second second_new → PrintsUpgrade stop (bares_by a.files outcomes) seen status
+  pub files_taken : (stop : Option UpgradeRefusal) (reports : List FileReport) → IfSome stop (EndsTexts mid new) → (takes : TakesFiles rows stop header reports mid second second_new) → PrintsUpgrade stop takes.came seen status
       → AnswersUpgrade rows seen old new second second_new status
-  files_taken stop outcomes stopped takes printed =
+  files_taken stop reports stopped takes printed =
       answered rows seen old new second second_new status kept (inr (inr (record {
         header = header;
         made = header_is old.seen a layouts is_old;
@@ -282,5 +253,5 @@ module _ (rows : ℕ) (seen : Outside) (old mid new second second_new : DiskStat
         stopped = IfSome_then stop stopped stop_on;
         each = All-weaker (CameOfText mid second second_new stop) (CameOfText old second second_new stop) (λ c is. record { cause = text_on stop c c.refusal is.cause; part = is.part }) takes.came takes.takes.each;
         disk = subst (λ (o : Option (List ℕ)). FromNew header second second_new (λ from. MakesNew rows stop o header takes.came from second_new)) keeps.seen takes.takes.disk;
-        printed = prints_same (bares_by a.files outcomes) takes.came takes.told stop printed;
+        printed = printed;
       })))

@@ -1,24 +1,18 @@
 -- What came of files, by their jobs.
-use Rattle.std.proofs.Common.{◌≡◌, ◌+◌, inl, refl, sym, ap, subst, ◌∙◌, ℕ, zero, suc, List, [], ◌∷◌, ◌++◌, length, map, Option, Some, arith}
+use Rattle.std.proofs.Common.{◌≡◌, ◌+◌, ◌<◌, ◌≤◌, inl, refl, sym, ap, subst, ◌∙◌, ℕ, zero, suc, List, [], ◌∷◌, ◌++◌, length, map, Option, Some, arith}
 use Rattle.std.specs.Prelude.{All, slice_get}
 use Rattle.std.proofs.lemmas.Option.{get_or_from_slice_get, slice_get-get_or, slice_get_within}
-use Rattle.std.proofs.lemmas.List.Elements.{All-cons, All-drop, All-head, All-nil, All-tail, All-take, All-weaker}
-use Rattle.std.proofs.Math.Seq.{drop-append_seam, take-append_seam}
-use Rattle.std.proofs.Common.{take, drop, get_or}
-use Rattle.archive_meaning.specs.Spelled.{types_in, types_of}
-use Rattle.archive_meaning.specs.declared.entry.JournalEntry.{JournalEntry}
-use Rattle.archive_meaning.specs.declared.entry.JournalEntry.TheVariants.{Files, Segment, Types, Words}
+use Rattle.std.proofs.Common.{take, get_or}
 use Rattle.archive_open.specs.declared.files.FileEntry.{FileEntry}
 use Rattle.archive_text.specs.State.{StoredState}
 use Rattle.archive_jobs.specs.Jobs.{AreJobsOf, IsJobOf}
-use Rattle.ingest_meaning.specs.WordsIn.{words_in, words_of}
-use Rattle.ingest_workers.specs.Ingested.{IsOfJobs, IsTypeGiven, IsWordGiven}
 use Rattle.ingest_workers.specs.declared.job.Job.{Job}
-use Rattle.row_codec.specs.Messages.{IsTypeOf, IsWordOf}
 use Rattle.name_records.specs.Named.{names_of}
-use Rattle.command_answers.specs.Ingested.{FileOutcome, IsGiven, IsOfNew}
-use Rattle.file_outcomes.proofs.ContentLemmas.{AreJobsOf as HaveJobs, given_of_names}
-use Rattle.upgrade_command.specs.Files.{bare, bares_by, came_by, outcome_by, outcomes_of, text_left}
+use Rattle.command_answers.specs.Ingested.{FileOutcome}
+use Rattle.file_outcomes.proofs.ContentLemmas.{AreJobsOf as HaveJobs}
+use Rattle.file_outcomes.specs.Taken.{AreToldAs}
+use Rattle.file_outcomes.specs.declared.file_report.FileReport.{FileReport}
+use Rattle.upgrade_command.specs.Files.{AreReports, IsReportOf, came_by, outcome_by, text_left}
 use Rattle.upgrade_command.proofs.RecordLemmas.{element_at}
 
 pub some_is : {A : Type 0} {a b : A} → Some a ≡ Some b → a ≡ b
@@ -40,6 +34,23 @@ pub record IsAt {D : Type 0} (files : List FileEntry) (js js' : List (Job (Store
   pub at : slice_get js i ≡ Some old
   pub at_done : slice_get js' i ≡ Some done
   pub is : c ≡ outcome_by file old done
+
+-- one more is reported
+pub reports_more : {S : Type 0} (js : List (Job S)) (reports : List FileReport) (files : List FileEntry) (place : ℕ) (j : Job S) (r : FileReport) (f : FileEntry) → place < length js → length js ≤ length files → AreReports (take place js) reports files
+    → IsReportOf (get_or js place j) r (get_or files place f) → AreReports (take (suc place) js) (reports ++ r ∷ []) files
+reports_more [] reports files place j r f within few told is = absurd (omega (arith, within))
+reports_more (x ∷ js) reports [] place j r f within few told is = absurd (omega (arith, few))
+reports_more (x ∷ js) [] (y ∷ files) zero j r f within few told is = (is, tt)
+reports_more (x ∷ js) (s ∷ reports) (y ∷ files) zero j r f within few told is = absurd told
+reports_more (x ∷ js) [] (y ∷ files) (suc place) j r f within few told is = absurd told
+reports_more (x ∷ js) (s ∷ reports) (y ∷ files) (suc place) j r f within few told is = (told.0, reports_more js reports files place j r f (omega (arith, within)) (omega (arith, few)) told.1 is)
+
+pub reports_pushed : {S : Type 0} (js : List (Job S)) (before more : List FileReport) (files : List FileEntry) (place : ℕ) (j : Job S) (r : FileReport) (f : FileEntry) → place < length js → length js ≤ length files
+    → AreReports (take place js) before files → more ≡ before ++ r ∷ [] → IsReportOf (get_or js place j) r (get_or files place f) → AreReports (take (place + 1) js) more files
+reports_pushed js before more files place j r f within few told pushed is =
+    let next : suc place ≡ place + 1 = omega arith in
+    subst (λ n. AreReports (take n js) more files) next
+    (subst (λ l. AreReports (take (suc place) js) l files) (sym pushed) (reports_more js before files place j r f within few told is))
 
 module _ {D : Type 0} where
   pub came_at : (files : List FileEntry) (js js' : List (Job (StoredState D))) (i : ℕ) (c : FileOutcome) → slice_get (came_by files js js') i ≡ Some c → IsAt files js js' i c
@@ -74,12 +85,18 @@ module _ {D : Type 0} where
   names_came (f ∷ files) (j ∷ js) [] a b = absurd (omega (arith, b))
   names_came (f ∷ files) (j ∷ js) (k ∷ js') a b = ap (λ (ns : List (List ℕ)). f.name ∷ ns) (names_came files js js' (omega (arith, a)) (omega (arith, b)))
 
-  -- as they are printed
-  pub bares_came : (files : List FileEntry) (js js' : List (Job (StoredState D))) → length js ≡ length files → length js' ≡ length files → bares_by files (outcomes_of js') ≡ map bare (came_by files js js')
-  bares_came [] js js' a b = refl
-  bares_came (f ∷ files) [] js' a b = absurd (omega (arith, a))
-  bares_came (f ∷ files) (j ∷ js) [] a b = absurd (omega (arith, b))
-  bares_came (f ∷ files) (j ∷ js) (k ∷ js') a b = ap (λ (cs : List FileOutcome). bare (outcome_by f j k) ∷ cs) (bares_came files js js' (omega (arith, a)) (omega (arith, b)))
+  -- they are told as they are reported
+  pub came_told : (files : List FileEntry) (js js' : List (Job (StoredState D))) (reports : List FileReport) → length js ≡ length files → AreReports js' reports files → AreToldAs (came_by files js js') reports
+  came_told [] js [] [] a told = tt
+  came_told [] js [] (r ∷ rs) a told = absurd told
+  came_told [] js (k ∷ js') [] a told = absurd told
+  came_told [] js (k ∷ js') (r ∷ rs) a told = absurd told
+  came_told (f ∷ files) [] js' reports a told = absurd (omega (arith, a))
+  came_told (f ∷ files) (j ∷ js) [] [] a told = tt
+  came_told (f ∷ files) (j ∷ js) [] (r ∷ rs) a told = absurd told
+  came_told (f ∷ files) (j ∷ js) (k ∷ js') [] a told = absurd told
+  came_told (f ∷ files) (j ∷ js) (k ∷ js') (r ∷ rs) a told =
+      (record { name = sym told.0.name; messages = sym told.0.messages; whole = sym told.0.whole; refusal = sym told.0.refusal }, came_told files js js' rs (omega (arith, a)) told.1)
 
   -- the job of a place is that of its file
   pub job_at : (seen : Option (List ℕ)) (files : List FileEntry) (js : List (Job (StoredState D))) → AreJobsOf seen files js → (i : ℕ) (f : FileEntry) (j : Job (StoredState D)) → slice_get files i ≡ Some f → slice_get js i ≡ Some j → IsJobOf seen i f.whole j
@@ -99,28 +116,3 @@ module _ {D : Type 0} where
         let done = element_at js' i (omega (arith, counted, within)) in
         (outcome_by entry.0 job done.0, there_at files js js' i entry.0 job done.0 entry.1 at done.1, inl (refl, refl));
   }
-
--- ---- the entries of the new files
-
-all_left : {A : Type 0} (P : A → Type 0) (xs ys : List A) → All P (xs ++ ys) → All P xs
-all_left P xs ys all = subst (All P) (take-append_seam xs ys) (All-take P (length xs) (xs ++ ys) all)
-
-all_right : {A : Type 0} (P : A → Type 0) (xs ys : List A) → All P (xs ++ ys) → All P ys
-all_right P xs ys all = subst (All P) (drop-append_seam xs ys) (All-drop P (length xs) (xs ++ ys) all)
-
-module _ {S : Type 0} (left : S → Option (List ℕ)) (version : ℕ) (came : List FileOutcome) (first : ℕ) (js : List (Job S)) (of : HaveJobs left version came first js) where
-  entry_of_new : (e : JournalEntry) → IsOfJobs js e → All (IsTypeGiven left version js) (types_in e) → All (IsWordGiven left version js) (words_in e) → IsOfNew version came first e
-  entry_of_new (Files more) is t w = is
-  entry_of_new (Types number texts) is t w = All-weaker (IsTypeGiven left version js) (λ text. (m : List ℕ) × IsGiven version came m × IsTypeOf version m text) (λ text g. (g.0, given_of_names left version came first js of g.0 g.1, g.2)) texts t
-  entry_of_new (Words number texts) is t w = All-weaker (IsWordGiven left version js) (λ text. (m : List ℕ) × IsGiven version came m × IsWordOf version m text) (λ text g. (g.0, given_of_names left version came first js of g.0 g.1, g.2)) texts w
-  entry_of_new (Segment s) is t w =
-      let file : is.1.file ≡ first + is.0 = of.file is.0 is.1 is.2 in
-      let named = of.log is.0 is.1 is.2 in
-      (omega (arith, file, is.3), omega (arith, file, is.3, slice_get_within came is.0 named.0 named.1))
-
-  pub all_of_new : (es : List JournalEntry) → All (IsOfJobs js) es → All (IsTypeGiven left version js) (types_of es) → All (IsWordGiven left version js) (words_of es) → All (IsOfNew version came first) es
-  all_of_new [] each types words = All-nil (IsOfNew version came first)
-  all_of_new (e ∷ es) each types words =
-      All-cons (IsOfNew version came first) e es
-      (entry_of_new e (All-head (IsOfJobs js) e es each) (all_left (IsTypeGiven left version js) (types_in e) (types_of es) types) (all_left (IsWordGiven left version js) (words_in e) (words_of es) words))
-      (all_of_new es (All-tail (IsOfJobs js) e es each) (all_right (IsTypeGiven left version js) (types_in e) (types_of es) types) (all_right (IsWordGiven left version js) (words_in e) (words_of es) words))

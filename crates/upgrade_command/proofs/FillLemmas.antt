@@ -4,6 +4,8 @@ use Rattle.std.specs.Prelude.{IfErr, IfOk, IfSome, is_ok, is_some, option_map}
 use Rattle.std.proofs.lemmas.List.{length-append, take-append-drop}
 use Rattle.log_seams.specs.Disk.{DiskState, IsLawful, Rests}
 use Rattle.log_seams.specs.Outside.{Rose}
+use Rattle.log_seams.proofs.ReadsLemmas.{rests_same}
+use Rattle.std.proofs.Math.Seq.{take-append_seam}
 use Rattle.log_seams.specs.declared.disk.Disk.{Ghosts as DiskGhosts}
 use Rattle.record_format.specs.declared.header.Header.{Header}
 use Rattle.dict_core.specs.Books.{BookState}
@@ -37,7 +39,7 @@ use Rattle.upgrade_command.specs.Files.{stop_by, text_faults, text_left, text_na
 use Rattle.upgrade_command.specs.Filling.{DidFill, HasNoTexts, IsNewJournal}
 use Rattle.upgrade_command.specs.Taking.{MakesNone, NamesFirst}
 use Rattle.upgrade_command.proofs.MadeLemmas.{from_new, leaves_from}
-use Rattle.upgrade_command.proofs.OldLemmas.{last_refused}
+use Rattle.file_outcomes.proofs.NamingLemmas.{refused_last}
 use Rattle.upgrade_command.proofs.RecordLemmas.{names_told}
 
 -- new books have the texts of a journal without any
@@ -57,12 +59,9 @@ not_read state lent name disk named rests same = record {
   own = λ e. cc (e);
 }
 
-rests_none : (d : DiskState) → Rests d d
-rests_none d = record { seen = refl; no_more = λ c left. left; no_fewer = λ c left. left; time = record { later = omega arith; nothing_else = λ t c low left. inl left; keeps = λ t c low left. left } }
-
 -- a disk that is lent as it is
 pub just_lent : {D : Type 0} (state : D → DiskState) (lent : LentDisk) (name : ℕ) (disk : D) → name ≡ lent.name → lent.disk ≡ state disk → IsRead state lent None name disk
-just_lent state lent name disk named same = not_read state lent name disk named (subst (λ d. Rests d (state disk)) (sym same) (rests_none (state disk))) (ap (λ (d : DiskState). d.faults) (sym same))
+just_lent state lent name disk named same = not_read state lent name disk named (subst (λ d. Rests d (state disk)) (sym same) (rests_same (state disk))) (ap (λ (d : DiskState). d.faults) (sym same))
 
 -- what is known of the texts by their opener, and by its cause
 pub known_by : {D : Type 0} (opener : OpenerState) (cause : Option TextCause) (js js' : List (Job (StoredState D))) → cause ≡ opener.cause → KnowsEach (λ (o : OpenerState) (t : StoredState D). LeavesCause o.cause (text_faults t)) opener js js'
@@ -78,14 +77,7 @@ err_is {A = A} {E = E} P result x is p = subst (λ (r : Result A E). IfErr r P) 
 
 -- a list that was taken out of a longer one and written back
 pub back_whole : {A : Type 0} (n : ℕ) (xs ys : List A) → n ≡ length ys → length xs ≡ length ys → take n (xs ++ drop (length xs) ys) ≡ xs
-back_whole zero [] [] counted same = refl
-back_whole zero [] (y ∷ ys) counted same = absurd (omega (arith, same))
-back_whole zero (x ∷ xs) [] counted same = absurd (omega (arith, same))
-back_whole zero (x ∷ xs) (y ∷ ys) counted same = absurd (omega (arith, counted))
-back_whole (suc n) [] [] counted same = absurd (omega (arith, counted))
-back_whole (suc n) [] (y ∷ ys) counted same = absurd (omega (arith, same))
-back_whole (suc n) (x ∷ xs) [] counted same = absurd (omega (arith, same))
-back_whole {A = A} (suc n) (x ∷ xs) (y ∷ ys) counted same = ap (λ (zs : List A). x ∷ zs) (back_whole n xs ys (omega (arith, counted)) (omega (arith, same)))
+back_whole n xs ys counted same = ap (λ k. take k (xs ++ drop (length xs) ys)) (counted ∙ sym same) ∙ take-append_seam xs (drop (length xs) ys)
 
 -- the jobs were done
 module _ {D E X : Type 0} {e : DiskGhosts E} where
@@ -110,7 +102,7 @@ module _ {D E : Type 0} {e : DiskGhosts E} where
 pub read_ends : {D : Type 0} (state : D → DiskState) (lent : LentDisk) (name : ℕ) (disk : D) (a : Shown) (last : ℕ) → last ≡ a.end - 1 → HasLastGate lent.disk.seen a → (cause : Option TextCause) → IsRead state lent cause name disk → IfSome (option_map (stop_by last) cause) (EndsTexts lent.disk (state disk))
 read_ends state lent name disk a last same gate None read = tt
 read_ends state lent name disk a last same gate (Some TextCause.DiskFault) read = read.counts.failed refl
-read_ends state lent name disk a last same gate (Some TextCause.Damaged) read = last_refused lent.disk.seen a last same gate (λ bytes is. none_of lent.disk.seen bytes is (read.damaged refl))
+read_ends state lent name disk a last same gate (Some TextCause.Damaged) read = refused_last lent.disk.seen a last same gate (λ bytes is. none_of lent.disk.seen bytes is (read.damaged refl))
   where
     none_of : (told : Option (List ℕ)) (bytes : List ℕ) → told ≡ Some bytes → IfSome told StandsForNone → StandsForNone bytes
     none_of None bytes is none = absurd (cc (is))

@@ -1,7 +1,6 @@
 -- The journal in which files are named and taken in.
 use Rattle.std.proofs.Common.{◌≡◌, ◌⊎◌, inl, inr, refl, sym, subst, ◌∙◌, ℕ, true, List, [], ◌++◌, Option, Some, None, arith, append-nil}
 use Rattle.std.specs.Prelude.{All, IfSome, is_some}
-use Rattle.std.proofs.lemmas.List.{take_all}
 use Rattle.std.proofs.lemmas.List.Elements.{All-nil, All-weaker}
 use Rattle.log_seams.specs.Disk.{IsLawful}
 use Rattle.log_seams.specs.declared.disk.Disk.{Ghosts as DiskGhosts}
@@ -27,7 +26,7 @@ use Rattle.name_records.proofs.NamedLemmas.{left_behind}
 use Rattle.command_answers.specs.Ingested.{LeavesJournal}
 use Rattle.file_outcomes.proofs.PieceLemmas.{IsNewFrom, grown}
 use Rattle.upgrade_command.specs.Filling.{DidFill, FillsNamed, IsNewJournal}
-use Rattle.upgrade_command.proofs.RecordLemmas.{entries_named, names_held}
+use Rattle.upgrade_command.proofs.RecordLemmas.{all_named, entries_named, names_held}
 
 -- ---- what was added behind the names
 
@@ -75,7 +74,7 @@ module _ {D E : Type 0} {e : DiskGhosts E} (lawful : (x : E) → IsLawful (e.sta
   added = added_by lawful rows cause fills.mid after js js' fills.did
 
   pub has_names : HasNames 0 names fills.named.naming (state_of j) (state_of fills.mid)
-  has_names = subst (λ ns. HasNames 0 ns fills.named.naming (state_of j) (state_of fills.mid)) (take_all fills.count names (omega (arith, fills.named.all refl))) (fills.named.done (λ e. cc (e)))
+  has_names = all_named names fills.count None (state_of j) (state_of fills.mid) fills.named refl
 
   pub all_goes : HasGoneOn (state_of j) (state_of after)
   all_goes = goes_then (state_of j) (state_of fills.mid) (state_of after) (lawful after.disk.now) fills.named.goes (fill_goes lawful rows cause fills.mid after js js' fills.did)

@@ -1,6 +1,5 @@
 pub mod AnswerLemmas
 pub mod CameLemmas
-pub mod FileLemmas
 pub mod FillLemmas
 pub mod FitsLemmas
 pub mod IntoLemmas
@@ -9,7 +8,6 @@ pub mod LimitLemmas
 pub mod MadeLemmas
 pub mod OldLemmas
 pub mod OutcomeLemmas
-pub mod PrintLemmas
 pub mod RecordLemmas
 pub mod TakesLemmas
 pub mod TextLemmas

@@ -1,8 +1,8 @@
 -- The archive that is upgraded, as it was opened.
-use Rattle.std.proofs.Common.{◌≡◌, ◌≢◌, ◌+◌, ◌-◌, ◌≤◌, ◌<◌, inr, refl, sym, ap, subst, ◌∙◌, ℕ, List, [], ◌∷◌, length, map, Option, Some, None, Result, Ok, Err, arith}
-use Rattle.std.specs.Prelude.{All, IfErr, IfOk}
+use Rattle.std.proofs.Common.{◌≡◌, ◌≢◌, ◌+◌, ◌-◌, ◌≤◌, ◌<◌, refl, sym, ap, subst, ◌∙◌, ℕ, List, [], ◌∷◌, length, map, Option, Some, None, Result, Ok, Err, arith}
+use Rattle.std.specs.Prelude.{All, IfOk}
 use Rattle.std.proofs.lemmas.List.{length-append, length-map}
-use Rattle.std.proofs.lemmas.List.Elements.{All-append, All-cons, All-head, All-nil, All-tail}
+use Rattle.std.proofs.lemmas.List.Elements.{All-cons, All-head, All-nil, All-tail}
 use Rattle.std.proofs.Math.Decide.{dec_le}
 use Rattle.std.proofs.Math.Logic.{dite}
 use Rattle.std.proofs.Math.Nat.{lt_of_not-le}
@@ -15,26 +15,15 @@ use Rattle.archive_meaning.specs.Held.{Held, Piece, files_from, nothing_held}
 use Rattle.archive_meaning.specs.Legal.{AreNamed, Run}
 use Rattle.archive_meaning.specs.declared.entry.JournalEntry.{JournalEntry}
 use Rattle.archive_meaning.specs.declared.entry.JournalEntry.TheVariants.{Files, Segment, Types, Words}
-use Rattle.archive_open.specs.Shown.{HasLastGate, IsGate, Opens, RefusedAt, Shown, StandsForNone, counted}
+use Rattle.archive_open.specs.Shown.{HasLastGate, Opens, Shown, StandsForNone, counted}
 use Rattle.archive_open.specs.declared.files.FileEntry.{FileEntry}
 use Rattle.search_meaning.specs.Journal.{OfJournal}
 use Rattle.name_records.specs.Named.{IsShort, names_of}
 use Rattle.command_refusals.specs.declared.outcome.UpgradeRefusal.{UpgradeRefusal}
+use Rattle.file_outcomes.proofs.NamingLemmas.{names_grow, refused_last}
 use Rattle.upgrade_command.specs.Old.{IsOld, MayBeNamed, RefusesOld, RefusesOpened}
 
 -- ---- the names of a legal archive
-
-short_grow : (h : Header) (held more : Held) (es : List JournalEntry) (count : ℕ) → Run h held es more → AreNamed count es → All IsShort held.names → All IsShort more.names
-short_grow h held more [] count run named short = subst (λ (x : Held). All IsShort x.names) (sym run) short
-short_grow h held more (Files names ∷ es) count run named short =
-    short_grow h run.0 more es (count + length names) run.2 named.4
-    (subst (λ (x : Held). All IsShort x.names) (sym run.1) (All-append IsShort held.names names short named.2))
-short_grow h held more (Types first texts ∷ es) count run named short =
-    short_grow h run.0 more es count run.2 named (subst (λ (x : Held). All IsShort x.names) (sym run.1.1) short)
-short_grow h held more (Words first texts ∷ es) count run named short =
-    short_grow h run.0 more es count run.2 named (subst (λ (x : Held). All IsShort x.names) (sym run.1.1) short)
-short_grow h held more (Segment s ∷ es) count run named short =
-    short_grow h run.0 more es count run.2 named.1 (subst (λ (x : Held). All IsShort x.names) (sym run.1.2) short)
 
 few_grow : (h : Header) (held more : Held) (es : List JournalEntry) (count : ℕ) → Run h held es more → AreNamed count es → count ≡ length held.names → count ≤ MAX_FILES → length more.names ≤ MAX_FILES
 few_grow h held more [] count run named same few = omega (arith, same, few, ap (λ (x : Held). length x.names) run)
@@ -65,17 +54,8 @@ may_be_named a bytes opens may_not = λ h es stood.
     let names : names_of a.files ≡ held.names = ap names_of is.files ∙ names_counted 0 held.names held.pieces in
     may_not (record {
       few = omega (arith, sym (length-map a.files (λ (f : FileEntry). f.name)), ap length names, few_grow h nothing_held held es 0 stood.legal.run stood.legal.named refl (omega arith));
-      short = short_files a.files (subst (All IsShort) (sym names) (short_grow h nothing_held held es 0 stood.legal.run stood.legal.named (All-nil IsShort)));
+      short = short_files a.files (subst (All IsShort) (sym names) (names_grow h nothing_held held es 0 stood.legal.run stood.legal.named (All-nil IsShort)));
     })
-
--- the last gate of an archive is told where its bytes stand for none
-pub last_refused : (told : Option (List ℕ)) (a : Shown) (last : ℕ) → last ≡ a.end - 1 → HasLastGate told a → ((bytes : List ℕ) → told ≡ Some bytes → StandsForNone bytes) → RefusedAt last told
-last_refused None a last same gate none = tt
-last_refused (Some bytes) a last same gate none = record {
-  none = none bytes refl;
-  behind = λ first damage. subst (λ n. first ≤ n) (sym same) (gate.behind first damage);
-  gate = inr (subst (λ n. IsGate n bytes) (sym same) gate.gate);
-}
 
 -- ---- why it is not upgraded
 
@@ -84,22 +64,13 @@ newest_of None a opens newest = tt
 newest_of (Some bytes) a opens newest = λ h es stood. subst (λ (x : Header). x.version ≡ LAST_VERSION) (opens h es stood).header newest
 
 pub opened_refuses : (old new : DiskState) (a : Shown) → Opens old.seen a → HasLastGate old.seen a → (r : UpgradeRefusal) → RefusesOpened a r → RefusesOld old new r
-opened_refuses old new a opens last (UpgradeRefusal.Damaged at) cause = last_refused old.seen a at cause.0 last (λ bytes is. may_be_named a bytes (subst (λ t. Opens t a) is opens) cause.1)
+opened_refuses old new a opens last (UpgradeRefusal.Damaged at) cause = refused_last old.seen a at cause.0 last (λ bytes is. may_be_named a bytes (subst (λ t. Opens t a) is opens) cause.1)
 opened_refuses old new a opens last UpgradeRefusal.OutOfMemory cause = tt
 opened_refuses old new a opens last (UpgradeRefusal.AlreadyNewest version) cause = (cause.0, newest_of old.seen a opens cause.1)
 opened_refuses old new a opens last UpgradeRefusal.DiskFault cause = absurd cause
 opened_refuses old new a opens last UpgradeRefusal.SecondFault cause = absurd cause
 opened_refuses old new a opens last (UpgradeRefusal.NotEmpty len) cause = absurd cause
 opened_refuses old new a opens last (UpgradeRefusal.ArchiveFull end need) cause = absurd cause
-
--- what holds of a value of an answer holds of it by another word
-pub ok_then : {A E : Type 0} (P Q : A → Type 0) (result : Result A E) → ((x : A) → P x → Q x) → IfOk result P → IfOk result Q
-ok_then P Q (Ok x) on p = on x p
-ok_then P Q (Err e) on p = tt
-
-pub err_then : {A E : Type 0} (P Q : E → Type 0) (result : Result A E) → ((x : E) → P x → Q x) → IfErr result P → IfErr result Q
-err_then P Q (Ok x) on p = tt
-err_then P Q (Err e) on p = on e p
 
 earlier : (a : Shown) → IsHeader a.header → a.header.version ≢ LAST_VERSION → a.header.version < LAST_VERSION
 earlier a header other =

@@ -1,5 +1,5 @@
 -- What is told of each file: that it is the archive's, and why not all of it was taken in.
-use Rattle.std.proofs.Common.{◌≡◌, ◌≢◌, ◌-◌, ◌⊎◌, inl, inr, refl, sym, ap, subst, ◌∙◌, ℕ, suc, Bool, true, false, List, [], ◌∷◌, length, map, Option, Some, None, arith}
+use Rattle.std.proofs.Common.{◌≡◌, ◌≢◌, ◌-◌, ◌⊎◌, inl, inr, refl, sym, ap, ap₂, subst, ◌∙◌, ℕ, suc, Bool, true, false, List, [], ◌∷◌, length, map, Option, Some, None, arith}
 use Rattle.std.specs.Prelude.{IfSome, is_some, not, option_map, slice_get}
 use Rattle.std.specs.List.{AllZip}
 use Rattle.std.proofs.lemmas.List.{length-map}
@@ -34,12 +34,13 @@ use Rattle.row_codec.specs.declared.namer.Which.{Which}
 use Rattle.search_meaning.specs.Journal.{OfJournal}
 use Rattle.command_refusals.specs.LogLimits.{most_messages}
 use Rattle.command_refusals.specs.declared.outcome.UpgradeRefusal.{UpgradeRefusal}
-use Rattle.command_answers.specs.Ingested.{FileOutcome, HasMoreThan, WasCutShort}
+use Rattle.file_lines.specs.Directory.{FileLine, line_of_file}
+use Rattle.command_answers.specs.Ingested.{FileOutcome, HasMoreThan, WasCutShort, line_of_came}
 use Rattle.command_answers.specs.Upgrading.{AreUpgrades, HasTextCause, IsOutcomeOf, IsUpgradeOf}
 use Rattle.file_outcomes.specs.Jobs.{of_cause}
+use Rattle.file_outcomes.proofs.ContentLemmas.{IsFileFor}
 use Rattle.upgrade_command.specs.Files.{outcome_by, stop_by, text_left}
 use Rattle.upgrade_command.proofs.CameLemmas.{some_is}
-use Rattle.upgrade_command.proofs.FileLemmas.{IsFileFor}
 use Rattle.upgrade_command.proofs.RecordLemmas.{element_at}
 use Rattle.upgrade_command.proofs.TextLemmas.{IsOldFile, ends_as_file, none_too_long, old_file}
 
@@ -95,7 +96,7 @@ pub record IsOldOf (o : File) (c : FileOutcome) : Type 0 where
   pub marks : c.refusal ≡ None → c.whole ≡ o.whole
   pub old : IsOldFile o
 
-upgrade_one : (o : File) (c : FileOutcome) (f : File) → IsOldOf o c → IsFileFor c f → IsUpgradeOf o c f
+upgrade_one : (o : File) (c : FileOutcome) (f : File) → IsOldOf o c → IsFileFor LAST_VERSION c f → IsUpgradeOf o c f
 upgrade_one o c f old is = record {
   name = is.name ∙ old.outcome.name;
   messages = is.messages;
@@ -107,7 +108,7 @@ upgrade_one o c f old is = record {
         (some.1, subst (λ ms. MessagesOf LAST_VERSION (file_text o) ms some.1) (sym all) some.2),
         is.whole ∙ old.marks spared,
         λ whole.
-            let marked = subst (λ (l : Option (List ℕ)). OfMessages LAST_VERSION l (λ ms e. (f.messages ≡ ms) × (f.ended ≡ e))) old.outcome.log (is.all (old.marks spared ∙ whole)) some.0 some.1 some.2 in
+            let marked = subst (λ (l : Option (List ℕ)). OfMessages LAST_VERSION l (λ ms e. (f.messages ≡ ms) × (f.ended ≡ e))) old.outcome.log (is.all spared (old.marks spared ∙ whole)) some.0 some.1 some.2 in
             marked.1 ∙ ends_as_file LAST_VERSION o some.0 some.1 old.old whole some.2,
       );
 }
@@ -115,7 +116,7 @@ upgrade_one o c f old is = record {
     AreAllIn : List (List ℕ) → Option (List ℕ) → Type 0
     AreAllIn ms l = AreAllOf LAST_VERSION l ms
 
-upgrades_all : (olds : List File) (came : List FileOutcome) (fs : List File) → length olds ≡ length came → AllZip IsFileFor came fs → ((i : ℕ) (o : File) (c : FileOutcome) → slice_get olds i ≡ Some o → slice_get came i ≡ Some c → IsOldOf o c) → AreUpgrades olds came fs
+upgrades_all : (olds : List File) (came : List FileOutcome) (fs : List File) → length olds ≡ length came → AllZip (IsFileFor LAST_VERSION) came fs → ((i : ℕ) (o : File) (c : FileOutcome) → slice_get olds i ≡ Some o → slice_get came i ≡ Some c → IsOldOf o c) → AreUpgrades olds came fs
 upgrades_all [] [] [] same zip each = tt
 upgrades_all [] [] (f ∷ fs) same zip each = absurd zip
 upgrades_all [] (c ∷ came) fs same zip each = absurd (omega (arith, same))
@@ -125,12 +126,21 @@ upgrades_all (o ∷ olds) (c ∷ came) (f ∷ fs) same zip each =
     let one = each 0 o c refl refl in
     (one.outcome, upgrade_one o c f one zip.0, upgrades_all olds came fs (omega (arith, same)) zip.1 (λ i x d at at'. each (suc i) x d at at'))
 
+-- as they are printed
+pub lines_for : (came : List FileOutcome) (fs : List File) → AllZip (IsFileFor LAST_VERSION) came fs → map line_of_came came ≡ map (λ f. line_of_file (counted f)) fs
+lines_for [] [] zip = refl
+lines_for [] (f ∷ fs) zip = absurd zip
+lines_for (c ∷ came) [] zip = absurd zip
+lines_for (c ∷ came) (f ∷ fs) zip =
+    let line : line_of_came c ≡ line_of_file (counted f) = λ i. record { name = sym zip.0.name i; messages = sym zip.0.messages i; whole = sym zip.0.whole i } in
+    ap₂ (λ (l : FileLine) (ls : List FileLine). l ∷ ls) line (lines_for came fs zip.1)
+
 module _ (a : Shown) (came : List FileOutcome) (counted_are : length came ≡ length a.files) where
   -- the file of a journal at a place is that of the archive
   entry_is : (h : Header) (es : List JournalEntry) (held : Held) → IsArchiveOf a h es held → (i : ℕ) (o : File) → slice_get (content_of held) i ≡ Some o → slice_get a.files i ≡ Some (counted o)
   entry_is h es held is i o at = ap (λ l. slice_get l i) is.files ∙ (slice_get-map counted (content_of held) i ∙ ap (option_map counted) at)
 
-  pub all_upgrades : (seen : Option (List ℕ)) → Opens seen a → ((i : ℕ) (c : FileOutcome) → slice_get came i ≡ Some c → (f : FileEntry) × (slice_get a.files i ≡ Some f) × IsTextFor seen i f c) → (fs : List File) → AllZip IsFileFor came fs
+  pub all_upgrades : (seen : Option (List ℕ)) → Opens seen a → ((i : ℕ) (c : FileOutcome) → slice_get came i ≡ Some c → (f : FileEntry) × (slice_get a.files i ≡ Some f) × IsTextFor seen i f c) → (fs : List File) → AllZip (IsFileFor LAST_VERSION) came fs
       → OfJournal seen (λ g es held. AreUpgrades (content_of held) came fs)
   all_upgrades None opens each fs zip = tt
   all_upgrades (Some bytes) opens each fs zip = λ g es stood.

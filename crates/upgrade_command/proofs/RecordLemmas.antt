@@ -1,7 +1,7 @@
 -- Records of names, what they hold, and the files that begin with a name alone.
-use Rattle.std.proofs.Common.{◌≡◌, ◌≤◌, ◌<◌, refl, sym, ap, subst, ◌∙◌, ℕ, zero, suc, true, false, List, [], ◌∷◌, ◌++◌, length, map, take, Option, Some, None, arith, append-nil, append_assoc}
+use Rattle.std.proofs.Common.{◌≡◌, ◌≤◌, ◌<◌, refl, sym, ap, subst, ◌∙◌, ℕ, zero, suc, true, false, List, [], ◌∷◌, ◌++◌, length, map, Option, Some, None, arith, append-nil}
 use Rattle.std.specs.Prelude.{is_some, slice_get}
-use Rattle.std.proofs.lemmas.List.{length-map}
+use Rattle.std.proofs.lemmas.List.{length-map, take_all}
 use Rattle.std.proofs.lemmas.Option.{slice_get_within}
 use Rattle.record_format.specs.declared.header.Header.{Header}
 use Rattle.disk_journal.specs.State.{JournalState}
@@ -9,7 +9,6 @@ use Rattle.archive_meaning.specs.declared.TheConstants.{MAX_FILES}
 use Rattle.archive_meaning.specs.declared.entry.JournalEntry.{JournalEntry}
 use Rattle.archive_meaning.specs.declared.entry.JournalEntry.TheVariants.{Files, Segment, Types, Words}
 use Rattle.archive_meaning.specs.Held.{Held, is_ended, is_whole, messages_of, nothing_held}
-use Rattle.archive_meaning.specs.Legal.{Run}
 use Rattle.archive_meaning.specs.Spelled.{types_of}
 use Rattle.archive_meaning.specs.Stands.{IsLegal}
 use Rattle.archive_open.specs.declared.files.FileEntry.{FileEntry}
@@ -24,6 +23,7 @@ use Rattle.name_records.specs.Named.{AreNamed, AreNamesOf, HasNames, names_of}
 use Rattle.ingest_meaning.specs.declared.refusal.RegisterRefusal.{RegisterRefusal}
 use Rattle.name_records.proofs.LeftLemmas.{by_told, of_told}
 use Rattle.command_answers.specs.Upgrading.{AreNamesOf as AreNamesTold}
+use Rattle.file_outcomes.proofs.NamingLemmas.{run_names, types_behind, words_behind}
 use Rattle.upgrade_command.specs.Filling.{HasNoTexts}
 
 -- the same, as the answers tell it
@@ -36,46 +36,15 @@ names_told (Segment s ∷ es) names are = absurd are
 
 -- ---- what they hold
 
-names_types : (es : List JournalEntry) (names : List (List ℕ)) → AreNamesOf es names → types_of es ≡ []
-names_types [] names are = refl
-names_types (Files some ∷ es) names are = names_types es are.2.0 are.2.2
-names_types (Types first texts ∷ es) names are = absurd are
-names_types (Words first texts ∷ es) names are = absurd are
-names_types (Segment s ∷ es) names are = absurd are
-
-names_words : (es : List JournalEntry) (names : List (List ℕ)) → AreNamesOf es names → words_of es ≡ []
-names_words [] names are = refl
-names_words (Files some ∷ es) names are = names_words es are.2.0 are.2.2
-names_words (Types first texts ∷ es) names are = absurd are
-names_words (Words first texts ∷ es) names are = absurd are
-names_words (Segment s ∷ es) names are = absurd are
-
-run_named : (h : Header) (old new : Held) (es : List JournalEntry) (names : List (List ℕ)) → AreNamesOf es names → Run h old es new → (new.names ≡ old.names ++ names) × (new.pieces ≡ old.pieces)
-run_named h old new [] names are run = (ap (λ (x : Held). x.names) run ∙ (sym (append-nil old.names) ∙ ap (λ ns. old.names ++ ns) (sym are)), ap (λ (x : Held). x.pieces) run)
-run_named h old new (Files some ∷ es) names are run =
-    let rest = run_named h run.0 new es are.2.0 are.2.2 run.2 in (
-      rest.0 ∙ (ap (λ (x : Held). x.names ++ are.2.0) run.1 ∙ (append_assoc old.names some are.2.0 ∙ ap (λ ns. old.names ++ ns) (sym are.2.1))),
-      rest.1 ∙ ap (λ (x : Held). x.pieces) run.1,
-    )
-run_named h old new (Types first texts ∷ es) names are run = absurd are
-run_named h old new (Words first texts ∷ es) names are run = absurd are
-run_named h old new (Segment s ∷ es) names are run = absurd are
-
 -- the names alone
 pub names_held : (h : Header) (es : List JournalEntry) (names : List (List ℕ)) → AreNamesOf es names → (legal : IsLegal h es) → (legal.held.names ≡ names) × (legal.held.pieces ≡ [])
-names_held h es names are legal = run_named h nothing_held legal.held es names are legal.run
+names_held h es names are legal = let same = run_names h nothing_held es names legal.held are legal.run in (ap (λ (x : Held). x.names) same, ap (λ (x : Held). x.pieces) same)
 
 -- ---- the journal that has them
 
 -- all of them are there where none was refused
-take_all : {A : Type 0} (n : ℕ) (xs : List A) → n ≡ length xs → take n xs ≡ xs
-take_all zero [] same = refl
-take_all zero (x ∷ xs) same = absurd (omega (arith, same))
-take_all (suc n) [] same = refl
-take_all {A = A} (suc n) (x ∷ xs) same = ap (λ (ys : List A). x ∷ ys) (take_all n xs (omega (arith, same)))
-
 pub all_named : (names : List (List ℕ)) (count : ℕ) (refusal : Option RegisterRefusal) (j mid : JournalState) (named : AreNamed 0 names count refusal j mid) → refusal ≡ None → HasNames 0 names named.naming j mid
-all_named names count refusal j mid named none = subst (λ ns. HasNames 0 ns named.naming j mid) (take_all count names (named.all none)) (named.done (λ e. cc (sym none ∙ e)))
+all_named names count refusal j mid named none = subst (λ ns. HasNames 0 ns named.naming j mid) (take_all count names (omega (arith, named.all none))) (named.done (λ e. cc (sym none ∙ e)))
 
 pub element_at : {A : Type 0} (xs : List A) (i : ℕ) → i < length xs → (x : A) × (slice_get xs i ≡ Some x)
 element_at [] i within = absurd (omega (arith, within))
@@ -89,7 +58,7 @@ module _ (names : List (List ℕ)) (naming : List JournalEntry) (j mid : Journal
 
   pub no_texts : HasNoTexts mid
   no_texts = by_told (is_some mid.disk.seen) (λ told.
-      let are = entries_named told in (ap types_of are ∙ names_types naming names has.are, ap words_of are ∙ names_words naming names has.are))
+      let are = entries_named told in (ap types_of (are ∙ sym (append-nil naming)) ∙ types_behind naming [] names has.are, ap words_of (are ∙ sym (append-nil naming)) ∙ words_behind naming [] names has.are))
 
   -- a file of it has its name, and nothing else
   file_named : (i : ℕ) → i < length names → IfTold (is_some mid.disk.seen) (Holds mid.header (told_entries mid) i [] false false)

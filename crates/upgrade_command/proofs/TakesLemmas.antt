@@ -1,5 +1,5 @@
 -- What a second disk is left with, where the files were named and taken in.
-use Rattle.std.proofs.Common.{◌≡◌, ◌≢◌, ◌-◌, ◌≤◌, ◌<◌, ◌⊎◌, inl, inr, refl, sym, ap, subst, ◌∙◌, ℕ, Bool, true, false, List, [], ◌++◌, length, Option, Some, None, arith}
+use Rattle.std.proofs.Common.{◌≡◌, ◌≢◌, ◌+◌, ◌-◌, ◌≤◌, ◌<◌, ◌⊎◌, inl, inr, refl, sym, ap, subst, ◌∙◌, ℕ, Bool, true, false, List, [], ◌++◌, length, Option, Some, None, arith}
 use Rattle.std.specs.Prelude.{All, is_some, not, option_map, slice_get}
 use Rattle.std.specs.List.{AllZip}
 use Rattle.std.proofs.lemmas.List.Elements.{All-nil}
@@ -13,7 +13,7 @@ use Rattle.record_format.specs.declared.header.TheConstants.{LAST_VERSION}
 use Rattle.disk_journal.specs.Created.{MakesEmpty}
 use Rattle.disk_journal.specs.Journal.{state_of}
 use Rattle.disk_journal.specs.declared.journal.Journal.{Journal}
-use Rattle.archive_meaning.specs.Held.{File, content_of, files_from, nothing_held}
+use Rattle.archive_meaning.specs.Held.{File, content_of, files_from, is_ended, is_whole, messages_of, nothing_held}
 use Rattle.archive_meaning.specs.Stands.{IsLegal, StandsFor}
 use Rattle.archive_meaning.specs.declared.entry.JournalEntry.{JournalEntry}
 use Rattle.archive_meaning.proofs.RunLemmas.{one_held}
@@ -26,26 +26,27 @@ use Rattle.ingest_workers.specs.Causes.{log_of}
 use Rattle.ingest_workers.specs.Ingested.{HasItsCause, IsFileOf, IsFullByGiven as IsFullByJobs, WereGiven as WereGivenByJobs, not_begun, plan_of, told_entries}
 use Rattle.ingest_workers.specs.JobDone.{in_source}
 use Rattle.ingest_workers.specs.declared.job.Job.{Job}
+use Rattle.ingest_workers.specs.declared.outcome.Cause.{Cause}
 use Rattle.ingest_workers.specs.declared.outcome.Outcome.{Outcome}
 use Rattle.name_records.specs.Named.{AreNamesOf, HasNames, names_of}
 use Rattle.command_refusals.specs.GoesOn.{DiskGoesOn}
 use Rattle.command_refusals.specs.declared.outcome.PartCause.{PartCause}
 use Rattle.command_refusals.specs.declared.outcome.UpgradeRefusal.{UpgradeRefusal}
 use Rattle.command_answers.specs.Benched.{at_moment}
-use Rattle.command_answers.specs.Ingested.{FileOutcome, IsFullInTurn, IsOfNew, LeavesJournal, OfStopped, names_in}
+use Rattle.command_answers.specs.Ingested.{FileOutcome, IsCutInto, IsFullInTurn, IsOfNew, LeavesJournal, OfStopped, names_in}
 use Rattle.command_answers.specs.Upgrading.{CameOfText, FromNew, HasLimitCause, HasTextCause, MakesNew}
 use Rattle.file_outcomes.specs.Jobs.{of_cause}
-use Rattle.file_outcomes.proofs.ContentLemmas.{AreJobsOf as HaveJobs}
+use Rattle.file_outcomes.proofs.ContentLemmas.{AreJobsOf as HaveJobs, IsFileFor, IsTold, all_of_names, cuts_for, file_told, files_for, none_told}
+use Rattle.file_outcomes.proofs.JoinLemmas.{HasNone}
 use Rattle.upgrade_command.specs.Files.{came_by, outcome_by, stop_by, text_faults, text_left, text_name}
 use Rattle.upgrade_command.specs.Filling.{AreFilled, DidFill, FillsNamed, IsNewJournal}
 use Rattle.upgrade_command.specs.Taking.{TakesTexts}
-use Rattle.upgrade_command.proofs.CameLemmas.{IsAt, all_of_new, came_at, each_of, have_jobs, job_at, length-came, names_came, some_is}
-use Rattle.upgrade_command.proofs.FileLemmas.{IsFileFor, IsFilled, cuts_for, filled_done, filled_none, files_for, lines_for}
+use Rattle.upgrade_command.proofs.CameLemmas.{IsAt, came_at, each_of, have_jobs, job_at, length-came, names_came, some_is}
 use Rattle.upgrade_command.proofs.FitsLemmas.{all_fit}
 use Rattle.upgrade_command.proofs.JournalLemmas.{added, added_by, all_leaves, entries_are, has_names, held_are, legal_all, legal_names, names_all, run_added, told_mid}
 use Rattle.upgrade_command.proofs.LimitLemmas.{limit_cause, turns_filled}
 use Rattle.upgrade_command.proofs.MadeLemmas.{from_new, leaves_from}
-use Rattle.upgrade_command.proofs.OutcomeLemmas.{IsTextFor, all_upgrades, part_of, rose_some, stop_some, text_cause, text_done, text_none}
+use Rattle.upgrade_command.proofs.OutcomeLemmas.{IsTextFor, all_upgrades, lines_for, part_of, rose_some, stop_some, text_cause, text_done, text_none}
 use Rattle.upgrade_command.proofs.RecordLemmas.{element_at, names_told}
 
 module _ {D E : Type 0} {e : DiskGhosts E} (lawful : (x : E) → IsLawful (e.state x)) (one : OneListOfParts) (rows : ℕ) (some_rows : 0 < rows) (a : Shown) (old second second_new : DiskState) (opens : Opens old.seen a) (last : ℕ) (cause : Option TextCause)
@@ -182,37 +183,46 @@ module _ {D E : Type 0} {e : DiskGhosts E} (lawful : (x : E) → IsLawful (e.sta
     names_are : names_in came ≡ names
     names_are = names_came a.files js js' jobs.count length-jobs
 
+    -- nothing is held of a file before
+    none_held : (file : ℕ) → HasNone file before.held.pieces
+    none_held file = record { messages = ap (messages_of file) nothing; whole = ap (is_whole file) nothing; ended = ap (is_ended file) nothing }
+
+    none_met : (o : Option Cause) → option_map of_cause o ≡ None → o ≡ None
+    none_met None is = refl
+    none_met (Some cause) is = absurd (cc (is))
+
     -- each file has what is told of it
-    filled_by : (did : DidFill rows cause mid after js js') → did ≡ fills.did → (i : ℕ) (c : FileOutcome) (at : IsAt a.files js js' i c) → IsFilled rows fresh legal.held.pieces i c
+    told_by : (did : DidFill rows cause mid after js js') → did ≡ fills.did → (i : ℕ) (c : FileOutcome) (at : IsAt a.files js js' i c) → IsTold h.version rows fresh legal.held.pieces i c
     unfolding before legal
-    filled_by (inl filled) same i c at =
+    told_by (inl filled) same i c at =
         let job = job_is i c at in
         let fresh_is : fresh ≡ filled.ingested.stored.fresh = sym (ap (added_by lawful rows cause mid after js js') same) in
-        subst (IsFilled rows fresh legal.held.pieces i) (sym at.is)
-        (subst (λ n. IsFilled rows fresh legal.held.pieces n (outcome_by at.file at.old at.done)) job.file
-        (filled_done h es fresh before.held legal.held before.run (run_added lawful rows names cause j after js js' new fills told) nothing version_mid rows mid mid_told refl refl at.file at.old at.done job.opened
-        (subst (λ l. IsFileOf text_left (plan_of rows mid) mid l at.old at.done) (sym fresh_is) (file_at filled i c at))))
-    filled_by (inr none) same i c at =
+        subst (IsTold h.version rows fresh legal.held.pieces i) (sym at.is)
+        (file_told h es fresh before.held legal.held before.run (run_added lawful rows names cause j after js js' new fills told) text_left mid mid_told refl refl rows i (outcome_by at.file at.old at.done) at.old at.done (none_held i) job.file
+        (subst (λ l. IsFileOf text_left (plan_of rows mid) mid l at.old at.done) (sym fresh_is) (file_at filled i c at)) refl refl (inl (refl, refl)) (λ spared. (refl, job.opened, none_met at.done.outcome.cause spared)))
+    told_by (inr none) same i c at =
         let not_done : at.done.outcome ≡ not_begun = none.jobs.each i at.done at.at_done in
         let fresh_is : fresh ≡ [] = sym (ap (added_by lawful rows cause mid after js js') same) in
-        subst (IsFilled rows fresh legal.held.pieces i) (sym at.is)
-        (filled_none h es fresh before.held legal.held before.run (run_added lawful rows names cause j after js js' new fills told) nothing version_mid rows i (outcome_by at.file at.old at.done) some_rows fresh_is
+        subst (IsTold h.version rows fresh legal.held.pieces i) (sym at.is)
+        (none_told h es fresh before.held legal.held before.run (run_added lawful rows names cause j after js js' new fills told) rows i (outcome_by at.file at.old at.done) some_rows (none_held i) fresh_is
         (ap (λ (o : Outcome). o.messages) not_done) (ap (λ (o : Outcome). o.whole) not_done)
         (λ spared. absurd (cc (sym (ap (λ (o : Outcome). option_map of_cause o.cause) not_done) ∙ spared))))
 
-    filled_at : (i : ℕ) (c : FileOutcome) → slice_get came i ≡ Some c → IsFilled rows fresh legal.held.pieces i c
-    filled_at i c at = filled_by fills.did refl i c (came_at a.files js js' i c at)
+    told_at : (i : ℕ) (c : FileOutcome) → slice_get came i ≡ Some c → IsTold h.version rows fresh legal.held.pieces (0 + i) c
+    told_at i c at = subst (λ n. IsTold h.version rows fresh legal.held.pieces n c) (omega arith) (told_by fills.did refl i c (came_at a.files js js' i c at))
 
     abbrev fs : List File
     fs = files_from 0 names legal.held.pieces
 
-    zip : AllZip IsFileFor came fs
-    zip = subst (λ ns. AllZip IsFileFor came (files_from 0 ns legal.held.pieces)) names_are
-        (files_for legal.held.pieces 0 came (λ i c at. subst (λ n. IsFilled rows fresh legal.held.pieces n c) (omega arith) (filled_at i c at)))
+    zip : AllZip (IsFileFor h.version) came fs
+    zip = files_for h.version legal.held.pieces 0 names came names_are told_at
+
+    zip_last : AllZip (IsFileFor LAST_VERSION) came fs
+    zip_last = subst (λ v. AllZip (IsFileFor v) came fs) version_mid zip
 
     -- the entries behind the names
     new_by : (did : DidFill rows cause mid after js js') → All (IsOfNew mid.header.version came 0) (added_by lawful rows cause mid after js js' did)
-    new_by (inl filled) = all_of_new text_left mid.header.version came 0 js of filled.ingested.stored.fresh filled.ingested.stored.others filled.ingested.types filled.ingested.words
+    new_by (inl filled) = all_of_names text_left mid.header.version came 0 js of filled.ingested.stored.fresh filled.ingested.stored.others filled.ingested.types filled.ingested.words
     new_by (inr none) = All-nil (IsOfNew mid.header.version came 0)
 
     -- a limit that was met
@@ -220,7 +230,7 @@ module _ {D E : Type 0} {e : DiskGhosts E} (lawful : (x : E) → IsLawful (e.sta
     limit_by (inl filled) i c at_came at =
         let its = cause_at filled i c at in
         subst (λ (x : FileOutcome). HasLimitCause rows stop h es came (e.state after.disk.now) x x.refusal) (sym at.is)
-        (limit_cause mid after mid_told stop rows came js of (outcome_by at.file at.old at.done) (lawful after.disk.now) filled.ingested.store filled.ingested.stored.left_by i at.old at.at (subst (λ (x : FileOutcome). slice_get came i ≡ Some x) at.is at_came)
+        (limit_cause mid after mid_told stop rows came js of (outcome_by at.file at.old at.done) (lawful after.disk.now) js' filled.ingested.store filled.ingested.stored i at.old at.at (subst (λ (x : FileOutcome). slice_get came i ≡ Some x) at.is at_came)
         (log_of text_left text_faults its.source.before its.source.after) its.sealed at.done.outcome.cause its.cause its.count (sym (ap (in_source text_left) its.source.had)) (rises_at filled i c at))
     limit_by (inr none) i c at_came at =
         let not_done : at.done.outcome ≡ not_begun = none.jobs.each i at.done at.at_done in
@@ -251,12 +261,12 @@ module _ {D E : Type 0} {e : DiskGhosts E} (lawful : (x : E) → IsLawful (e.sta
       leaves = leaves;
       files = fs;
       content_is = held_files;
-      told = lines_for came fs zip;
-      upgrades = all_upgrades a came (length-came a.files js js' jobs.count length-jobs) old.seen opens text_at fs zip;
-      cuts = cuts_for rows fresh legal.held.pieces names came filled_at zip;
+      told = lines_for came fs zip_last;
+      upgrades = all_upgrades a came (length-came a.files js js' jobs.count length-jobs) old.seen opens text_at fs zip_last;
+      cuts = λ i f at. subst (λ n. IsCutInto rows n f fresh) (omega arith) (cuts_for h.version rows fresh legal.held.pieces 0 names came told_at zip i f at);
       limits = each_of (λ (c : FileOutcome). HasLimitCause rows stop h es came (e.state after.disk.now) c c.refusal) came (λ i c at. limit_by fills.did i c at (came_at a.files js js' i c at));
       in_turn = turns_by fills.did;
-      fits = all_fit one h version_mid es fresh legal names came zip;
+      fits = all_fit one h es fresh legal names came zip;
     }
 
   -- ---- all of it

@@ -1,15 +1,14 @@
 -- What came of the files of an archive, by their jobs.
-use Rattle.std.specs.Prelude.{ℕ, true, List, [], ◌∷◌, map, Option, None, option_map, Result, Ok, Err}
+use Rattle.std.specs.Prelude.{◌≡◌, ℕ, true, List, [], ◌∷◌, Option, None, option_map, Result, Ok, Err}
 use Rattle.archive_open.specs.declared.files.FileEntry.{FileEntry}
 use Rattle.archive_text.specs.State.{StoredState}
 use Rattle.archive_text.specs.declared.cause.TextCause.{TextCause}
 use Rattle.ingest_workers.specs.declared.job.Job.{Job}
 use Rattle.ingest_workers.specs.JobDone.{in_source}
-use Rattle.ingest_workers.specs.declared.outcome.Outcome.{Outcome}
 use Rattle.command_refusals.specs.declared.outcome.UpgradeRefusal.{UpgradeRefusal}
 use Rattle.command_answers.specs.Ingested.{FileOutcome}
 use Rattle.file_outcomes.specs.Jobs.{of_cause}
-use Rattle.upgrade_command.specs.declared.report.NewFile.{NewFile}
+use Rattle.file_outcomes.specs.declared.file_report.FileReport.{FileReport}
 
 -- what the text of a file tells of its bytes, of its name, and of reads of it that failed
 abbrev pub text_left : {D : Type 0} → StoredState D → Option (List ℕ)
@@ -20,13 +19,6 @@ text_name t = None
 
 abbrev pub text_faults : {D : Type 0} → StoredState D → ℕ
 text_faults t = t.faults
-
--- what came of a file as it is printed, where nothing is told of its bytes
-abbrev pub bare_of : NewFile → FileOutcome
-bare_of f = record { name = f.name.now; log = None; opened = true; messages = f.messages; whole = f.whole; refusal = f.refusal }
-
-abbrev pub bare : FileOutcome → FileOutcome
-bare c = record { name = c.name; log = None; opened = c.opened; messages = c.messages; whole = c.whole; refusal = c.refusal }
 
 -- what came of a file of an archive, by its job before and after it was done
 abbrev pub outcome_by : {D : Type 0} → FileEntry → Job (StoredState D) → Job (StoredState D) → FileOutcome
@@ -46,17 +38,18 @@ came_by (f ∷ fs) [] ks = []
 came_by (f ∷ fs) (j ∷ js) [] = []
 came_by (f ∷ fs) (j ∷ js) (k ∷ ks) = outcome_by f j k ∷ came_by fs js ks
 
--- what came of a file as it is printed, by what came of its job
-abbrev pub bare_by : FileEntry → Outcome → FileOutcome
-bare_by f o = record { name = f.name; log = None; opened = true; messages = o.messages; whole = o.whole; refusal = option_map of_cause o.cause }
+-- the file is reported by what came of its job
+pub record IsReportOf {S : Type 0} (done : Job S) (report : FileReport) (f : FileEntry) : Type 0 where
+  pub name : report.name.now ≡ f.name
+  pub messages : report.messages ≡ done.outcome.messages
+  pub whole : report.whole ≡ done.outcome.whole
+  pub refusal : report.refusal ≡ option_map of_cause done.outcome.cause
 
-abbrev pub bares_by : List FileEntry → List Outcome → List FileOutcome
-bares_by [] os = []
-bares_by (f ∷ fs) [] = []
-bares_by (f ∷ fs) (o ∷ os) = bare_by f o ∷ bares_by fs os
-
-abbrev pub outcomes_of : {S : Type 0} → List (Job S) → List Outcome
-outcomes_of js = map (λ j. j.outcome) js
+-- so are the first files, a job of each
+abbrev pub AreReports : {S : Type 0} → List (Job S) → List FileReport → List FileEntry → Type 0
+AreReports [] [] files = Unit {0}
+AreReports (j ∷ js) (r ∷ rs) (f ∷ fs) = IsReportOf j r f × AreReports js rs fs
+AreReports _ _ _ = ⊥
 
 -- Why the texts could not be had to their end, where damage is told at a place. None is read that is not to be.
 abbrev pub stop_by : ℕ → TextCause → UpgradeRefusal

@@ -1,5 +1,5 @@
 -- What the second disk is left with.
-use Rattle.std.specs.Prelude.{◌≡◌, ◌⊎◌, ℕ, List, [], map, All, Option}
+use Rattle.std.specs.Prelude.{◌⊎◌, ℕ, List, [], map, All, Option}
 use Rattle.log_seams.specs.Disk.{DiskState, KeepsBytes}
 use Rattle.log_seams.specs.Outside.{Rose}
 use Rattle.record_format.specs.declared.header.Header.{Header}
@@ -10,9 +10,8 @@ use Rattle.search_meaning.specs.Journal.{OfJournal}
 use Rattle.command_refusals.specs.declared.outcome.UpgradeRefusal.{UpgradeRefusal}
 use Rattle.command_answers.specs.Ingested.{FileOutcome, LeavesJournal}
 use Rattle.command_answers.specs.Upgrading.{CameOfText, FromNew, MakesNew, NamesSome, NamedNotAll}
-use Rattle.archive_open.specs.declared.files.FileEntry.{FileEntry}
-use Rattle.ingest_workers.specs.declared.outcome.Outcome.{Outcome}
-use Rattle.upgrade_command.specs.Files.{bare, bares_by}
+use Rattle.file_outcomes.specs.Taken.{AreToldAs}
+use Rattle.file_outcomes.specs.declared.file_report.FileReport.{FileReport}
 
 -- The files of the archive were named in a new one and taken in, in segments of at most so many rows, and this came of them.
 pub record TakesTexts (rows : ℕ) (stop : Option UpgradeRefusal) (header : Header) (came : List FileOutcome)
@@ -20,11 +19,11 @@ pub record TakesTexts (rows : ℕ) (stop : Option UpgradeRefusal) (header : Head
   pub each : All (CameOfText old second second_new stop) came
   pub disk : FromNew header second second_new (λ from. MakesNew rows stop old.seen header came from second_new)
 
--- So they were, and this came of the jobs of the files.
-pub record TakesFiles (rows : ℕ) (stop : Option UpgradeRefusal) (header : Header) (files : List FileEntry)
-    (outcomes : List Outcome) (old second second_new : DiskState) : Type 0 where
+-- So they were, and they are reported so.
+pub record TakesFiles (rows : ℕ) (stop : Option UpgradeRefusal) (header : Header) (reports : List FileReport)
+    (old second second_new : DiskState) : Type 0 where
   pub came : List FileOutcome
-  pub told : bares_by files outcomes ≡ map bare came
+  pub told : AreToldAs came reports
   pub takes : TakesTexts rows stop header came old second second_new
 
 -- no new archive was made

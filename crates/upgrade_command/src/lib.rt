@@ -4,7 +4,6 @@
 mod filling;
 mod made;
 mod old;
-mod report;
 mod taking;
 mod upgrade;
 

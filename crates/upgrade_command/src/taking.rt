@@ -1,5 +1,5 @@
 //! The files of an archive, taken into a new one on a second disk.
-ghost use Rattle.std.specs.Prelude.{◌≡◌, ◌≤◌, [], None, Option, length, vec_capacity, IfErr, IfOk, IfSome};
+ghost use Rattle.std.specs.Prelude.{◌≡◌, ◌≤◌, [], None, Option, length, option_map, vec_capacity, IfErr, IfOk, IfSome};
 ghost use Rattle.log_seams.specs.Disk.{Rests};
 ghost use Rattle.archive_meaning.specs.declared.TheConstants.{MAX_ROWS};
 ghost use Rattle.archive_open.specs.Archive.{shown};
@@ -7,19 +7,20 @@ ghost use Rattle.archive_jobs.specs.Lent.{IsRead};
 ghost use Rattle.archive_text.specs.declared.cause.TextCause.{TextCause};
 ghost use Rattle.command_refusals.specs.GoesOn.{DiskGoesOn};
 ghost use Rattle.command_answers.specs.Upgrading.{EndsTexts, header_for};
-ghost use Rattle.upgrade_command.specs.Files.{outcomes_of};
+ghost use Rattle.upgrade_command.specs.Files.{AreReports, stop_by};
 ghost use Rattle.upgrade_command.specs.Old.{IsOld};
 ghost use Rattle.upgrade_command.specs.Taking.{TakesFiles, TakesNone};
 
 use crate::filling::name_and_fill;
 use crate::made::begin_made;
 use crate::old::OldArchive;
-use crate::report::stop_of;
 use archive_jobs::{Lent, jobs_of};
-use archive_open::KeepsTexts;
+use archive_open::{FileEntry, KeepsTexts};
+use archive_text::TextCause;
 use command_refusals::UpgradeRefusal;
 use disk_journal::create;
-use ingest_workers::{Job, Outcome};
+use file_outcomes::{FileReport, refusal_of_cause};
+use ingest_workers::Job;
 use log_seams::Disk;
 use logtype_text::one_list_of_parts;
 use record_format::{Header, LAST_VERSION};
@@ -30,9 +31,9 @@ use std::thread::Threads;
 
 /// What came of the files of an archive.
 #[derive(Drop)]
-pub(crate) struct Ended {
-    /// What came of the job of each file, in their order.
-    pub(crate) outcomes: Vec<Outcome>,
+pub(crate) struct Ended<'a> {
+    /// What came of each file, in their order.
+    pub(crate) reports: Vec<FileReport<'a>>,
     /// Why the texts could not be had to their end, if they could not.
     pub(crate) stop: Option<UpgradeRefusal>,
 }
@@ -49,15 +50,40 @@ fn new_header(header: &Header) -> Header
     }
 }
 
-/// What came of the jobs, in their order.
-fn outcomes_of<T>(jobs: &[Job<T>], outcomes: &mut Vec<Outcome>)
-    requires none { outcomes.old.items ≡ [] }
-    requires room { length jobs.now ≤ vec_capacity outcomes.old }
-    ensures { outcomes.new.items ≡ outcomes_of jobs.now }
+/// Tells of each file what came of its job.
+fn report_jobs<'a, T>(
+    files: &'a [FileEntry],
+    jobs: &[Job<T>],
+    mut reports: Vec<FileReport<'a>>,
+) -> Vec<FileReport<'a>>
+    requires few { length jobs.now ≤ length files.now }
+    requires none { reports.items ≡ [] }
+    requires room { length jobs.now ≤ vec_capacity reports }
+    ensures { AreReports jobs.now result.items files.now }
 {
-    for job in jobs {
-        outcomes.push_reserved(job.outcome());
+    for (place, job) in jobs.iter().enumerate() {
+        let outcome = job.outcome();
+        reports.push_reserved(FileReport {
+            name: files[place].name.as_slice(),
+            opened: true,
+            messages: outcome.messages,
+            whole: outcome.whole,
+            refusal: refusal_of_cause(outcome.cause),
+        });
     }
+    reports
+}
+
+/// Why the texts could not be had to their end, as it is told. The reading of a text tells no place of
+/// damage: the first is not behind the archive's last gate, `last`.
+fn stop_of(cause: Option<TextCause>, last: u64) -> Option<UpgradeRefusal>
+    ensures { result ≡ option_map (stop_by last) cause }
+{
+    Some(match cause? {
+        TextCause::DiskFault => UpgradeRefusal::DiskFault,
+        TextCause::Damaged => UpgradeRefusal::Damaged { at: last },
+        TextCause::OutOfMemory | TextCause::Refused => UpgradeRefusal::OutOfMemory,
+    })
 }
 
 /// Makes a new archive on a second disk, and takes the files into it, a job of each, over the archive's
@@ -67,6 +93,7 @@ fn outcomes_of<T>(jobs: &[Job<T>], outcomes: &mut Vec<Outcome>)
 ///
 /// No new archive was made, or not all of its files were named. No job was begun then.
 fn take_lent<
+    'o: 'a,
     'a,
     R: Threads + Wait + Sync,
     D: Disk + Send,
@@ -76,10 +103,10 @@ fn take_lent<
 >(
     rt: &R,
     alloc: Global,
-    old: &'a OldArchive<N>,
+    old: &'o OldArchive<N>,
     disk: &'a mut D,
     second: &mut E,
-) -> (Result<Ended, UpgradeRefusal>, &'a mut D)
+) -> (Result<Ended<'o>, UpgradeRefusal>, &'a mut D)
     requires old { IsOld L.lent.disk.seen (shown N.kept old.now.archive) old.now.layouts }
     requires layouts { old.now.layouts ≡ L.lent.types }
     requires read { IsRead D.state L.lent None disk.ghost_name disk.old }
@@ -93,20 +120,19 @@ fn take_lent<
     ensures stop { IfOk result.0 (λ n. IfSome n.stop
         (EndsTexts L.lent.disk (D.state result.1.now))) }
     ensures taken { IfOk result.0 (λ n. TakesFiles MAX_ROWS n.stop
-        (header_for (shown N.kept old.now.archive).header)
-        (shown N.kept old.now.archive).files n.outcomes.items
+        (header_for (shown N.kept old.now.archive).header) n.reports.items
         L.lent.disk (E.state second.old) (E.state second.new)) }
-    ensures few { IfOk result.0 (λ n. length n.outcomes.items
-        ≡ length (shown N.kept old.now.archive).files) }
     ensures refused { IfErr result.0 (TakesNone
         (header_for (shown N.kept old.now.archive).header)
         L.lent.disk (E.state second.old) (E.state second.new)) }
 {
     one_list_of_parts();
-    let Ok(mut jobs) = jobs_of::<D, N, L>(alloc, &old.archive, &*disk) else {
+    // the jobs last as long as the disk is lent, and the names of the files longer
+    let lent: &'a OldArchive<N> = old;
+    let Ok(mut jobs) = jobs_of::<D, N, L>(alloc, &lent.archive, &*disk) else {
         return (Err(UpgradeRefusal::OutOfMemory), disk);
     };
-    let Ok(mut outcomes) = Vec::with_capacity(alloc, jobs.len()) else {
+    let Ok(reports) = Vec::with_capacity(alloc, jobs.len()) else {
         return (Err(UpgradeRefusal::OutOfMemory), disk);
     };
     let header = new_header(old.archive.header());
@@ -119,7 +145,7 @@ fn take_lent<
     let taken = name_and_fill(
         rt,
         alloc,
-        old,
+        lent,
         jobs.as_mut_slice(),
         disk,
         &mut back,
@@ -128,9 +154,10 @@ fn take_lent<
     let Some(disk) = back else { unreachable!() };
     match taken.answer {
         Ok(cause) => {
-            outcomes_of(jobs.as_slice(), &mut outcomes);
+            let files = old.archive.files().as_slice();
+            let reports = report_jobs(files, jobs.as_slice(), reports);
             let stop = stop_of(cause, old.archive.last_gate());
-            (Ok(Ended { outcomes, stop }), disk)
+            (Ok(Ended { reports, stop }), disk)
         }
         Err(refusal) => (Err(UpgradeRefusal::from(refusal)), disk),
     }
@@ -139,6 +166,7 @@ fn take_lent<
 /// Takes the files of the archive of any disk into a new archive on the second disk. The first disk
 /// is only read.
 pub(crate) fn take_files<
+    'o,
     R: Threads + Wait + Sync,
     D: Disk + Send,
     E: Disk + Send,
@@ -146,10 +174,10 @@ pub(crate) fn take_files<
 >(
     rt: &R,
     alloc: Global,
-    old: &OldArchive<N>,
+    old: &'o OldArchive<N>,
     disk: &mut D,
     second: &mut E,
-) -> Result<Ended, UpgradeRefusal>
+) -> Result<Ended<'o>, UpgradeRefusal>
     requires { IsOld (D.state disk.old).seen (shown N.kept old.now.archive) old.now.layouts }
 
     // what stays
@@ -161,11 +189,8 @@ pub(crate) fn take_files<
     ensures stop { IfOk result (λ n. IfSome n.stop
         (EndsTexts (D.state disk.old) (D.state disk.new))) }
     ensures taken { IfOk result (λ n. TakesFiles MAX_ROWS n.stop
-        (header_for (shown N.kept old.now.archive).header)
-        (shown N.kept old.now.archive).files n.outcomes.items
+        (header_for (shown N.kept old.now.archive).header) n.reports.items
         (D.state disk.old) (E.state second.old) (E.state second.new)) }
-    ensures few { IfOk result (λ n. length n.outcomes.items
-        ≡ length (shown N.kept old.now.archive).files) }
     ensures refused { IfErr result (TakesNone
         (header_for (shown N.kept old.now.archive).header)
         (D.state disk.old) (E.state second.old) (E.state second.new)) }

@@ -1,20 +1,44 @@
 //! The command `upgrade`.
-ghost use Rattle.std.specs.Prelude.{◌≤◌};
+ghost use Rattle.std.specs.Prelude.{◌^◌, ◌≤◌, List, length};
 ghost use Rattle.log_seams.specs.Disk.{KeepsBytes};
 ghost use Rattle.archive_meaning.specs.declared.TheConstants.{MAX_ROWS};
 ghost use Rattle.command_answers.specs.Answers.{AnswersUpgrade};
+ghost use Rattle.command_answers.specs.Ingested.{FileOutcome};
+ghost use Rattle.command_answers.specs.Upgrading.{PrintsUpgrade};
 ghost use Rattle.command_refusals.specs.GoesOn.{DiskGoesOn};
 ghost use Rattle.command_refusals.specs.Outside.{AroundSinks};
+ghost use Rattle.file_outcomes.specs.Taken.{AreToldAs};
 
 use crate::old::open_old;
-use crate::report::print_files;
 use crate::taking::take_files;
 use archive_open::{KeepsTexts, PlainBooks};
-use command_refusals::{refusal_of_upgrade, report};
+use command_refusals::{UpgradeRefusal, refusal_of_upgrade, report};
+use file_outcomes::{FileReport, print_taken};
 use log_seams::{Disk, Sink};
 use std::alloc::Global;
 use std::sync::Wait;
 use std::thread::Threads;
+
+/// Prints what came of the files, or why their texts could not be had to their end.
+fn print_files<K: Sink>(
+    alloc: Global,
+    reports: &[FileReport<'_>],
+    stop: Option<UpgradeRefusal>,
+    out: &mut K,
+    err: &mut K,
+) -> u8
+    requires { length reports.now ≤ 2 ^ 64 }
+    ensures prints { (came : List FileOutcome) → AreToldAs came reports.now
+        → AroundSinks K.written K.faults out.old out.new err.old err.new (λ seen.
+        PrintsUpgrade stop came seen result) }
+    ensures out { K.faults out.old ≤ K.faults out.new }
+    ensures err { K.faults err.old ≤ K.faults err.new }
+{
+    match stop {
+        Some(refusal) => report(err, "", refusal_of_upgrade(refusal)),
+        None => print_taken(alloc, 0, reports, out, err),
+    }
+}
 
 /// Takes the files of the archive into a new one on the second disk, and prints a line for each new
 /// file. The texts of the archive are kept as `N` keeps them.
@@ -38,17 +62,7 @@ fn upgrade_by<
 {
     match open_old::<D, N>(alloc, disk) {
         Ok(old) => match take_files(rt, alloc, &old, disk, second) {
-            Ok(ended) => {
-                let files = old.archive.files().as_slice();
-                print_files(
-                    alloc,
-                    files,
-                    ended.outcomes.as_slice(),
-                    ended.stop,
-                    out,
-                    err,
-                )
-            }
+            Ok(ended) => print_files(alloc, ended.reports.as_slice(), ended.stop, out, err),
             Err(refusal) => report(err, "", refusal_of_upgrade(refusal)),
         },
         Err(refusal) => report(err, "", refusal_of_upgrade(refusal)),

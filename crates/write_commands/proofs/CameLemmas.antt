@@ -1,26 +1,24 @@
 -- What `ingest` answers, from what it printed of the files that were taken in.
-use Rattle.std.proofs.Common.{◌≡◌, refl, ap, subst, ◌∙◌, inl, inr, ℕ, List, [], ◌∷◌, ◌++◌, length, map}
+use Rattle.std.proofs.Common.{◌≡◌, refl, ap, ◌∙◌, inl, inr, ℕ, List, [], ◌∷◌, length, map}
 use Rattle.std.specs.Prelude.{All, Option, is_some}
 use Rattle.std.proofs.lemmas.List.Elements.{All-cons, All-nil}
 use Rattle.std.specs.List.{flat_map}
 use Rattle.log_seams.specs.Disk.{DiskState}
 use Rattle.logtype_text.specs.Laws.{OneListOfParts}
-use Rattle.sink_pieces.specs.Output.{Grew, GrewByFront}
 use Rattle.command_refusals.specs.Outside.{Outside}
-use Rattle.file_lines.specs.Directory.{FileLine, directory_from}
-use Rattle.command_refusals.specs.Ending.{EndsWithoutMemory, RoseIn, SaysIn, Stayed, TookNothing}
+use Rattle.command_refusals.specs.Ending.{SaysIn, Stayed, TookNothing}
 use Rattle.command_answers.specs.Ingested.{EndsIngest, FileOutcome, FromArchive, HasCallCause, IfRefused, PrintsCame, TakesFiles, TakesIn, TakesNothing, line_of_came, logs_of}
 use Rattle.write_commands.specs.IngestPrints.{came_of, names_of}
 use Rattle.file_outcomes.specs.StepsCauses.{HaveFileCauses}
 use Rattle.command_refusals.specs.Reading.{OverJournal}
 use Rattle.command_refusals.specs.Refusal.{line_of, status_of}
-use Rattle.file_outcomes.specs.Taken.{error_of, line_of_taken, status_of_taken}
-use Rattle.command_answers.specs.Taken.{file_error, file_status, gravest}
+use Rattle.file_outcomes.specs.Taken.{AreToldAs, error_of, line_of_taken}
+use Rattle.command_answers.specs.Taken.{file_error, file_status}
 use Rattle.command_refusals.specs.declared.outcome.AddRefusal.{AddRefusal}
 use Rattle.command_refusals.specs.Outcome.{of_add}
-use Rattle.command_refusals.specs.declared.refusal.Refusal.TheVariants.{SinkFault}
 use Rattle.file_outcomes.specs.declared.file_report.FileReport.{FileReport}
 use Rattle.file_outcomes.proofs.FittingLemmas.{all_fit}
+use Rattle.file_outcomes.proofs.PrintLemmas.{errors_told, lines_told, statuses_told}
 use Rattle.write_commands.proofs.WholeLemmas.{cut_short, file_causes, full_in_turn}
 
 module _ (content : List ℕ → Option (List ℕ)) where
@@ -33,17 +31,19 @@ module _ (content : List ℕ → Option (List ℕ)) where
   logs_came [] = All-nil (λ (c : FileOutcome). c.log ≡ content c.name)
   logs_came (file ∷ files) = All-cons (λ (c : FileOutcome). c.log ≡ content c.name) (came_of content file) (map (came_of content) files) refl (logs_came files)
 
+  -- they are told so
+  pub told_came : (files : List FileReport) → AreToldAs (map (came_of content) files) files
+  told_came [] = tt
+  told_came (file ∷ files) = (record { name = refl; messages = refl; whole = refl; refusal = refl }, told_came files)
+
   pub lines_came : (files : List FileReport) → map line_of_taken files ≡ map line_of_came (map (came_of content) files)
-  lines_came [] = refl
-  lines_came (file ∷ files) = ap (λ (ls : List FileLine). line_of_taken file ∷ ls) (lines_came files)
+  lines_came files = lines_told (map (came_of content) files) files (told_came files)
 
   pub statuses_came : (files : List FileReport) → map (λ (file : FileReport). file_status file.refusal) files ≡ map (λ (c : FileOutcome). file_status c.refusal) (map (came_of content) files)
-  statuses_came [] = refl
-  statuses_came (file ∷ files) = ap (λ ns. file_status file.refusal ∷ ns) (statuses_came files)
+  statuses_came files = statuses_told (map (came_of content) files) files (told_came files)
 
   pub errors_came : (files : List FileReport) → flat_map error_of files ≡ flat_map (λ (c : FileOutcome). file_error c.name c.refusal) (map (came_of content) files)
-  errors_came [] = refl
-  errors_came (file ∷ files) = ap (λ text. error_of file ++ text) (errors_came files)
+  errors_came files = errors_told (map (came_of content) files) files (told_came files)
 
 -- it ends so, and where it was refused this holds of the refusal
 abbrev EndsSo : (AddRefusal → Type 0) → ℕ → ℕ → List (List ℕ) → Outside → DiskState → DiskState → ℕ → Type 0
@@ -73,26 +73,5 @@ module _ (one : OneListOfParts) (workers rows : ℕ) (names : List (List ℕ)) (
   takes_with P holds = (takes_came, holds)
 
   -- it is printed
-  printed_came : (P : AddRefusal → Type 0) (status : ℕ) → PrintsCame (map (came_of seen.content) files) first seen status → EndsSo P workers rows names seen old new status
+  pub printed_came : (P : AddRefusal → Type 0) (status : ℕ) → PrintsCame (map (came_of seen.content) files) first seen status → EndsSo P workers rows names seen old new status
   printed_came P status printed = (inr (takes_with (λ came n. PrintsCame came n seen status) printed), tt)
-
-  -- all lines were printed
-  pub printed_all : (P : AddRefusal → Type 0) (status : ℕ) (told : List FileReport) → told ≡ files → Grew seen.out.0 seen.out.1 (directory_from first (map line_of_taken files)) → status ≡ status_of_taken told → SaysIn seen (flat_map error_of told) → Stayed seen.out_faults
-      → EndsSo P workers rows names seen old new status
-  printed_all P status told same grew is said sink = printed_came P status (inl (
-    is ∙ (ap status_of_taken same ∙ ap gravest (statuses_came seen.content files)),
-    subst (λ (ls : List FileLine). Grew seen.out.0 seen.out.1 (directory_from first ls)) (lines_came seen.content files) grew,
-    subst (λ text. SaysIn seen text) (ap (λ (fs : List FileReport). flat_map error_of fs) same ∙ errors_came seen.content files) said,
-    sink,
-  ))
-
-  front_came : GrewByFront seen.out.0 seen.out.1 (directory_from first (map line_of_taken files)) → GrewByFront seen.out.0 seen.out.1 (directory_from first (map line_of_came (map (came_of seen.content) files)))
-  front_came grew = subst (λ (ls : List FileLine). GrewByFront seen.out.0 seen.out.1 (directory_from first ls)) (lines_came seen.content files) grew
-
-  -- the output failed
-  pub printed_some : (P : AddRefusal → Type 0) (status : ℕ) → GrewByFront seen.out.0 seen.out.1 (directory_from first (map line_of_taken files)) → status ≡ status_of SinkFault → SaysIn seen (line_of [] SinkFault) → RoseIn seen.out_faults → EndsSo P workers rows names seen old new status
-  printed_some P status grew is said rose = printed_came P status (inr (inl (record { status_is = is; said = said }, front_came grew, rose)))
-
-  -- there was no memory for the lines
-  pub printed_short : (P : AddRefusal → Type 0) (status : ℕ) → GrewByFront seen.out.0 seen.out.1 (directory_from first (map line_of_taken files)) → EndsWithoutMemory seen status → Stayed seen.out_faults → EndsSo P workers rows names seen old new status
-  printed_short P status grew ends sink = printed_came P status (inr (inr (ends, front_came grew, sink)))

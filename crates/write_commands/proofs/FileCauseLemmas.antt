@@ -17,29 +17,22 @@ use Rattle.disk_journal.specs.declared.journal.Journal.{Journal}
 use Rattle.disk_journal.specs.Journal.{state_of}
 use Rattle.archive_meaning.specs.declared.entry.JournalEntry.{JournalEntry}
 use Rattle.disk_seal.specs.View.{StoreView}
-use Rattle.disk_seal.proofs.ToldLemmas.{told_map}
 use Rattle.row_codec.specs.declared.namer.Which.{Which}
-use Rattle.row_codec.specs.declared.namer.Which.TheVariants.{Types as WhichTypes, Words as WhichWords}
-use Rattle.ingest_meaning.specs.Given.{AreAllOf, IsNextOf}
-use Rattle.ingest_meaning.specs.Dictionaries.{IsTextOf}
-use Rattle.ingest_workers.proofs.FullLemmas.{full_by_wider}
-use Rattle.file_outcomes.proofs.ContentLemmas.{AreJobsOf, given_of_names}
+use Rattle.file_outcomes.proofs.ContentLemmas.{AreJobsOf}
 use Rattle.ingest_workers.specs.declared.job.Job.{Job}
 use Rattle.ingest_workers.specs.declared.outcome.Cause.{Cause}
 use Rattle.ingest_workers.specs.declared.outcome.Outcome.{Outcome}
-use Rattle.ingest_workers.specs.Causes.{EndsLog, HasJobCause, HasLogCause, Log, log_of}
-use Rattle.ingest_workers.proofs.SealLemmas.{of_told}
-use Rattle.message_reader.specs.Taken.{IsBeforeLong, IsReadShort}
-use Rattle.ingest_workers.specs.Ingested.{AreRefused, HadNoRoomOver, HasItsCause, HasStored, HaveCauses, IsAsItWas, IsFullByGiven as IsFullByJobs, IsThereOrGiven as IsThereOrGivenByJobs, WereGiven as WereGivenByJobs, grounds_over, not_begun, plan_of, told_entries}
+use Rattle.ingest_workers.specs.Causes.{EndsLog, HasJobCause, Log, log_of}
+use Rattle.ingest_workers.specs.Ingested.{AreRefused, HadNoRoomOver, HasItsCause, HasStored, HaveCauses, IsAsItWas, IsFullByGiven as IsFullByJobs, WereGiven as WereGivenByJobs, grounds_over, not_begun, plan_of}
 use Rattle.ingest_workers.specs.Outcome.{nothing_done}
 use Rattle.write_commands.specs.IngestPrints.{came_of}
-use Rattle.command_answers.specs.Ingested.{FileOutcome, HasEnded, HasMoreThan, IsNextTooLong, IsStoppedBy, IsThereOrGiven, Logs, WasNotOpened}
+use Rattle.command_answers.specs.Ingested.{FileOutcome, HasMoreThan, IsNextTooLong, Logs, WasNotOpened}
 use Rattle.file_outcomes.specs.Jobs.{DidJobs, IsNotBegun, of_cause, of_opening, refusal_by, sources_of}
 use Rattle.file_outcomes.specs.StepsCauses.{CameIn, HasCauseIn, Target, into_journal}
 use Rattle.command_refusals.specs.LogLimits.{IsLong, most_messages}
 use Rattle.command_refusals.specs.declared.outcome.PartCause.{PartCause}
 use Rattle.file_outcomes.specs.declared.file_report.FileReport.{FileReport}
-use Rattle.file_outcomes.proofs.FitLemmas.{fit_of_job}
+use Rattle.file_outcomes.proofs.FitLemmas.{given_full, given_room}
 use Rattle.write_commands.proofs.LineLemmas.{long_behind}
 use Rattle.write_commands.proofs.TakeInLemmas.{CameBy, CameOfLog}
 
@@ -101,37 +94,6 @@ module _ {S : Type 0} (left name : S → Option (List ℕ)) (faults : S → ℕ)
     abbrev CauseIn : Option PartCause → Type 0
     CauseIn = HasCauseIn logs into (d.state j.disk.now) (d.state after.disk.now) c
 
-    -- a text of the encoding of a message of a job is one of a message of a given file
-    of_given : (book : Which) (t : List ℕ) → IsThereOrGivenByJobs (left_in left) (plan_of rows j) js j book t → IsThereOrGiven j.header.version came (told_entries (state_of j)) book t
-    of_given WhichTypes t (inl there) = inl there
-    of_given WhichTypes t (inr given) = inr (given.0, given_of_names (left_in left) j.header.version came first js of given.0 given.1, given.2)
-    of_given WhichWords t (inl there) = inl there
-    of_given WhichWords t (inr given) = inr (given.0, given_of_names (left_in left) j.header.version came first js of given.0 given.1, given.2)
-
-    -- a text of the log's next message is one of the next message of the named file
-    next_in : (bytes : Option (List ℕ)) (sealed : List (List ℕ)) (book : Which) (t : List ℕ) → bytes ≡ c.log → IsTextOf j.header.version (IsNextOf j.header.version bytes sealed) book t
-        → IsTextOf j.header.version (IsNextOf j.header.version c.log sealed) book t
-    next_in bytes sealed book t is next = subst (λ (o : Option (List ℕ)). IsTextOf j.header.version (IsNextOf j.header.version o sealed) book t) is next
-
-    -- where a job's log has ended, the log of the named file has
-    stopped_by : (log : Log) → log.bytes ≡ c.log → (Rose log.faults log.faults_now → Rose (logs.reads c.name).0 (logs.reads c.name).1) → is_some (d.state j.disk.now).seen ≡ true → (taken : List (List ℕ)) (cause : Cause)
-        → HasLogCause (full log.bytes) log j.header.version taken cause → IsStoppedBy logs came j.header (told_entries (state_of j)) c taken (of_cause cause)
-    stopped_by log bytes up told taken Cause.ReadFault has =
-        (up has.0, subst (λ (o : Option (List ℕ)). IfSome o (λ b. (behind : Option (List ℕ)) × IsReadShort j.header.version b taken behind)) bytes (IfSome_then log.bytes has.1 (λ b short. (log.behind, short))))
-    stopped_by log bytes up told taken (Cause.LineTooLong line) has = (has.1, subst (λ (o : Option (List ℕ)). IfSome o (IsBeforeLong j.header.version taken)) bytes has.2)
-    stopped_by log bytes up told taken Cause.TooManyLines has = (has.1, subst (λ (o : Option (List ℕ)). HasMoreThan most_messages j.header.version o) bytes has.2)
-    stopped_by log bytes up told taken (Cause.Full book n) has =
-        let is = of_told (is_some (d.state j.disk.now).seen) _ told has.1 in
-        (is.0, full_by_wider _ _ _ _ (of_given book) (λ t next. next_in log.bytes taken book t bytes next) n is.1)
-    stopped_by log bytes up told taken (Cause.DiskFault opened now) has = has
-    stopped_by log bytes up told taken Cause.OutOfMemory has = has
-    stopped_by log bytes up told taken (Cause.ArchiveFull end need) has = has
-
-    has_ended : (log : Log) → log.bytes ≡ c.log → (Rose log.faults log.faults_now → Rose (logs.reads c.name).0 (logs.reads c.name).1) → is_some (d.state j.disk.now).seen ≡ true → (taken : List (List ℕ))
-        → EndsLog (full log.bytes) log j.header.version taken → HasEnded logs came j.header (told_entries (state_of j)) c taken
-    has_ended log bytes up told taken (inl all) = inl (subst (λ (o : Option (List ℕ)). AreAllOf j.header.version o taken) bytes all)
-    has_ended log bytes up told taken (inr why) = inr (of_cause why.0, stopped_by log bytes up told taken why.0 why.1)
-
     -- the cause of a job
     job_cause : (file : ℕ) (log : Log) (sealed : List (List ℕ)) (o : Option Cause) → HasJobCause (grounds_over full has_texts (plan_of rows j) file log.bytes j after) log j.header.version sealed o
         → ((end need : ℕ) → HadNoRoomOver has_texts (plan_of rows j) file log.bytes j after (EndsLog (full log.bytes) log j.header.version) sealed end need → CauseIn (Some (PartCause.ArchiveFull end need))) → is_some o ≡ not c.whole → c.messages ≡ length sealed → log.bytes ≡ c.log
@@ -147,8 +109,7 @@ module _ {S : Type 0} (left name : S → Option (List ℕ)) (faults : S → ℕ)
       subst (λ (o : Option (List ℕ)). IfSome o (IsNextTooLong j.header.version c line)) bytes (IfSome_then log.bytes has.2 (λ b before. record { taken = sealed; count = count; follows = has.1; before = before })),
     )
     job_cause file log sealed (Some Cause.TooManyLines) has fits whole count bytes up = (count ∙ has.1, subst (λ (o : Option (List ℕ)). HasMoreThan most_messages j.header.version o) bytes has.2)
-    job_cause file log sealed (Some (Cause.Full book n)) has fits whole count bytes up = told_map (is_some (state_of j).disk.seen)
-        (λ is. (is.0, record { sealed = sealed; count = count; holds = full_by_wider _ _ _ _ (of_given book) (λ t next. next_in log.bytes sealed book t bytes next) n is.1 })) has.1
+    job_cause file log sealed (Some (Cause.Full book n)) has fits whole count bytes up = given_full (left_in left) logs j after came rows first js of c log.bytes bytes sealed count book n has.1
     job_cause file log sealed (Some (Cause.DiskFault opened now)) has fits whole count bytes up = subst (λ n. Rose n (d.state after.disk.now).faults) has.0 has.1
     job_cause file log sealed (Some Cause.OutOfMemory) has fits whole count bytes up = tt
     job_cause file log sealed (Some (Cause.ArchiveFull end need)) has fits whole count bytes up = fits end need has
@@ -162,7 +123,7 @@ module _ {S : Type 0} (left name : S → Option (List ℕ)) (faults : S → ℕ)
     done_in : (s : LogSource S) (old done : Job (LogSource S)) → CameFrom c s → c.opened ≡ is_opened s → old.source ≡ Some s → old.is_open ≡ is_opened s
         → c.messages ≡ done.outcome.messages → c.whole ≡ done.outcome.whole → c.refusal ≡ refusal_by (refusal_of s) done.outcome.cause
         → HasItsCause full has_texts (left_in left) (name_in name) (faults_in faults) (plan_of rows j) j after old done
-        → ((bytes : Option (List ℕ)) → bytes ≡ c.log → (last : List (List ℕ) → Type 0) → (is_some (d.state j.disk.now).seen ≡ true → (taken : List (List ℕ)) → last taken → HasEnded logs came j.header (told_entries (state_of j)) c taken) → (sealed : List (List ℕ)) → c.messages ≡ length sealed → (end need : ℕ) → HadNoRoomOver has_texts (plan_of rows j) old.file bytes j after last sealed end need → CauseIn (Some (PartCause.ArchiveFull end need)))
+        → ((log : Log) → log.bytes ≡ c.log → (Rose log.faults log.faults_now → Rose (logs.reads c.name).0 (logs.reads c.name).1) → (sealed : List (List ℕ)) → c.messages ≡ length sealed → (end need : ℕ) → HadNoRoomOver has_texts (plan_of rows j) old.file log.bytes j after (EndsLog (full log.bytes) log j.header.version) sealed end need → CauseIn (Some (PartCause.ArchiveFull end need)))
         → (old.is_open ≡ true → is_some done.outcome.cause ≡ not done.outcome.whole) → (old.is_open ≡ false → done.outcome ≡ nothing_done)
         → ((t : LogSource S) → done.source ≡ Some t → IsCounted name faults reads reads_now t) → In
     done_in (Unopened cause n) old done came_from is_open has as_opened messages whole refusal its fits opened unopened counted =
@@ -177,7 +138,7 @@ module _ {S : Type 0} (left name : S → Option (List ℕ)) (faults : S → ℕ)
         λ risen. reads_rose c.log c.name s its.source.after came_from (its.source.keeps.named ∙ ap (name_in name) is) (counted its.source.after its.source.has) (subst (λ n. Rose n (faults_in faults its.source.after)) (ap (faults_in faults) is) risen) in
         came_in logs into (d.state j.disk.now) (d.state after.disk.now) c (option_map of_cause done.outcome.cause) refusal
         (job_cause old.file log its.sealed done.outcome.cause its.cause
-        (fits log.bytes bytes (EndsLog (full log.bytes) log j.header.version) (has_ended log bytes up) its.sealed (messages ∙ its.count)) either (messages ∙ its.count) bytes up)
+        (fits log bytes up its.sealed (messages ∙ its.count)) either (messages ∙ its.count) bytes up)
         (not_whole done.outcome.cause c.whole either) (λ shut. absurd (cc (shut, is_open)))
       where
         some_is : (x y : LogSource S) → Some x ≡ Some y → x ≡ y
@@ -214,7 +175,7 @@ module _ {S : Type 0} (left name : S → Option (List ℕ)) (faults : S → ℕ)
         let alike : cause.0 ≡ one.done = some_is cause.0 one.done (sym cause.1 ∙ one.at_done) in
         let its = subst (λ (x : Job (LogSource S)). HasItsCause (IsFullByJobs (left_in left) (plan_of rows j) js j) (WereGivenByJobs (left_in left) (plan_of rows j) js) (left_in left) (name_in name) (faults_in faults) (plan_of rows j) j after one.old x) alike cause.2 in
         done_in j after came rows first js of c one.source one.old one.done one.came one.is_open one.has one.opened one.messages one.whole one.refusal its
-        (fit_of_job (left_in left) logs j after came rows first js of law store stored.left_by i one.old one.at c at)
+        (λ log bytes up. given_room (left_in left) logs j after came rows first js of c log bytes up law js' store stored i one.old one.at at)
         (λ given. subst (λ (x : Job (LogSource S)). is_some x.outcome.cause ≡ not x.outcome.whole) same (file.2.cause given one.no_part))
         (subst (λ (x : Job (LogSource S)). one.old.is_open ≡ false → x.outcome ≡ nothing_done) same file.2.unopened)
         (λ t has. at_of (IsCounted name faults reads reads_now) given i t counted (source_at given are i one.done t one.at_done has)))

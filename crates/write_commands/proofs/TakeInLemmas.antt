@@ -36,7 +36,7 @@ use Rattle.file_outcomes.specs.Naming.{AreNumbered}
 use Rattle.command_refusals.specs.declared.outcome.PartCause.{PartCause}
 use Rattle.file_outcomes.specs.declared.file_report.FileReport.{FileReport}
 use Rattle.write_commands.proofs.CameLemmas.{names_came}
-use Rattle.file_outcomes.proofs.ContentLemmas.{AreJobsOf, CameOfJob, ingested_taken, named_at, none_told, refused_taken, taken_in}
+use Rattle.file_outcomes.proofs.ContentLemmas.{AreJobsOf, CameOfJob, ingested_taken, named_at, none_new, refused_taken, taken_in}
 use Rattle.write_commands.proofs.JobLemmas.{numbered_at}
 use Rattle.file_outcomes.proofs.LeavesLemmas.{of_told, same_leaves}
 
@@ -71,7 +71,8 @@ none_takes_into {D} {d} rows some content names first taken named none j law may
     let t = taken_in h before names stood [] stands.0 came nothing rows (d.state j.disk.now) (d.state j.disk.now) (same_leaves h before names j j law has law stands.1 (inl refl)) are
     (λ i c at.
     let refused = refused_at i c at in
-    none_told h before names stood [] stands.0 came nothing rows i c some (slice_get_within names i c.name (named_at came names are i c at)) refl refused.0 refused.1 (λ spared. absurd (cc (sym refused.2 ∙ spared)))) in
+    none_new h before names stood [] stands.0 came nothing rows i c some (slice_get_within names i c.name (named_at came names are i c at)) refl refused.0 refused.1 (λ spared. absurd (cc (sym refused.2 ∙ spared))))
+    (λ i c at spared. absurd (cc (sym (refused_at i c at).2 ∙ spared))) in
     record { takes = t.0; entries = has.entries ∙ ap (λ (l : List JournalEntry). before ++ (Files names ∷ l)) (sym t.1) }
   where
     came : List FileOutcome

@@ -11,7 +11,7 @@ ghost use Rattle.log_sources.specs.Sources.{CameOf, is_opened, refusal_of, str_b
 ghost use Rattle.command_refusals.specs.GoesOn.{DiskGoesOn, OutsideGoesOn};
 ghost use Rattle.ingest_fork.specs.declared.works.TheConstants.{MAX_WORKERS};
 ghost use Rattle.command_answers.specs.Ingested.{TellsDamage};
-ghost use Rattle.command_answers.specs.Known.{over, told_if};
+ghost use Rattle.command_answers.specs.Known.{told_if};
 ghost use Rattle.write_commands.specs.Followed.{FollowsBy, MayBeginAt, WentAlong};
 ghost use Rattle.write_commands.specs.IngestPrints.{came_of, names_of};
 ghost use Rattle.file_outcomes.specs.Jobs.{DidJobs, IsNotBegun, IsToldBy, opens_of, refusal_by, sources_of};
@@ -35,16 +35,14 @@ use command_refusals::{AddRefusal, PartCause, Refusal, refusal_of_add, report};
 use command_words::IngestWords;
 use disk_journal::{Journal, start};
 use disk_seal::{Alone, Beside};
-use file_lines::print_directory;
 use file_outcomes::{
     Base, FileReport, Founded, Holding, JournalEnd, Lent, OpenedArchive, PartedJournal, hold,
-    part_cause, part_journal, report_taken,
+    part_journal, print_taken, refusal_of_cause,
 };
 use ingest_workers::{Cause, Job, Split, ingest_beside};
 use log_seams::{Disk, OpenRefused, Shelf, Sink, Source};
 use log_sources::{LogSource, close_logs, open_logs};
 use logtype_text::one_list_of_parts;
-use sink_pieces::PrintRefusal;
 use std::alloc::{AllocError, Global};
 use std::marker::Brand;
 use std::sync::Wait;
@@ -86,7 +84,7 @@ fn refusal_of_file(opening: Option<OpenRefused>, cause: Option<Cause>) -> Option
         Some(OpenRefused::OutOfMemory) => return Some(PartCause::OutOfMemory),
         None => {}
     }
-    Some(part_cause(cause?))
+    refusal_of_cause(cause)
 }
 
 /// Tells of each file that there was no memory to begin with it.
@@ -98,7 +96,7 @@ fn refuse_all<'a>(names: &'a [&'a str], taken: &mut Vec<FileReport<'a>>)
 {
     for &name in names {
         taken.push_reserved(FileReport {
-            name,
+            name: name.as_bytes(),
             opened: false,
             messages: 0,
             whole: false,
@@ -227,7 +225,7 @@ fn end_jobs<'a, S>(
         let place = taken.len();
         let opening = openings[place];
         taken.push_reserved(FileReport {
-            name: names[place],
+            name: names[place].as_bytes(),
             opened: opening.is_none(),
             messages: outcome.messages,
             whole: outcome.whole,
@@ -543,39 +541,6 @@ where
     answer
 }
 
-/// Adds the logs to the archive of any disk. What is said of the disk's bytes is said where they
-/// are those of the archive that is known.
-fn add_known<'a, R: Threads + Wait + Sync, H: Shelf, D: Disk + Send, B: Base>(
-    rt: &R,
-    alloc: Global,
-    asked: NewLogs<'a>,
-    shelf: &mut H,
-    disk: &mut D,
-    taken: &mut Vec<FileReport<'a>>,
-) -> Result<u32, AddRefusal>
-where
-    H::Src: Send,
-    requires asked { MayAdd asked }
-    requires room { HasRoomFor asked taken.old }
-
-    // by the answer
-    ensures added { IfOk result (λ first. AddsNewLogs (H.content shelf.old)
-        (logs_around H.unread H.open_faults H.read_faults shelf.old shelf.new)
-        asked.entry first taken.new.items
-        (over B.archive (D.state disk.old) (D.state disk.old))
-        (over B.archive (D.state disk.old) (D.state disk.new))) }
-    ensures refused { IfErr result (RefusesNewLogs asked.entry
-        (over B.archive (D.state disk.old) (D.state disk.old))
-        (over B.archive (D.state disk.old) (D.state disk.new))) }
-    ensures damaged { IfErr result (TellsDamage (D.state disk.old) (D.state disk.new)) }
-
-    // what stays
-    ensures goes_on { DiskGoesOn (D.state disk.old) (D.state disk.new) }
-    ensures logs { ShelfGoesOn H.content H.open_faults H.read_faults shelf.old shelf.new }
-{
-    add_lent::<R, H, D, Brand>(rt, alloc, asked, shelf, disk, taken)
-}
-
 /// Adds logs to an archive, and tells what came of each.
 pub fn ingest_files<R: Threads + Wait + Sync, H: Shelf, D: Disk + Send, K: Sink, B: Base>(
     rt: &R,
@@ -617,14 +582,9 @@ where
     let Ok(mut taken) = Vec::with_capacity(alloc, asked.files.len()) else {
         return report(err, "", Refusal::OutOfMemory);
     };
-    match add_known::<R, H, D, B>(rt, alloc, asked, shelf, disk, &mut taken) {
-        Ok(first) => {
-            match print_directory(alloc, u64::from(first), taken.as_slice(), out) {
-                Ok(()) => report_taken(err, taken.as_slice()),
-                Err(PrintRefusal::SinkFault) => report(err, "", Refusal::SinkFault),
-                Err(PrintRefusal::OutOfMemory) => report(err, "", Refusal::OutOfMemory),
-            }
-        }
+    // what is said of the disk's bytes is said where they are those of the archive that is known
+    match add_lent::<R, H, D, Brand>(rt, alloc, asked, shelf, disk, &mut taken) {
+        Ok(first) => print_taken(alloc, u64::from(first), taken.as_slice(), out, err),
         Err(refusal) => report(err, "", refusal_of_add(refusal)),
     }
 }

@@ -3,7 +3,7 @@ use Rattle.std.proofs.lemmas.Result.{err_from_is_err_and}
 use Rattle.record_format.specs.Header.{IsHeader}
 use Rattle.archive_open.proofs.OpenLemmas.{start_refused}
 use Rattle.archive_open.proofs.ReadLemmas.{start_damaged_from}
-use Rattle.upgrade_command.proofs.OldLemmas.{ok_then}
+use Rattle.std.proofs.lemmas.Result.{IfOk-weaker}
 use Rattle.upgrade_command.proofs.old.open_headed.Goals as goal
 
 pub returns-in_err-header-clause-damaged : goal.returns-in_err-header-clause-damaged
@@ -12,4 +12,4 @@ returns-in_err-header-clause-damaged g c = λ at is.
     start_refused at (g.D.Disk.state c.args.disk.now) (c.in_err-header.ensures.damaged at (search (rules, is, p.1, p.2, start_damaged_from)))
 
 pub returns-clause-header : goal.returns-clause-header
-returns-clause-header g c = ok_then _ _ c.open_for_append.result (λ a same. subst IsHeader (sym (same ∙ c.begin-journal.ensures.header)) c.in_ok-header.ensures.begins.legal) c.open_for_append.ensures.header
+returns-clause-header g c = IfOk-weaker c.open_for_append.result _ _ (λ a same. subst IsHeader (sym (same ∙ c.begin-journal.ensures.header)) c.in_ok-header.ensures.begins.legal) c.open_for_append.ensures.header

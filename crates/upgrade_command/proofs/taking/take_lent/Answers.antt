@@ -5,9 +5,9 @@ use Rattle.archive_jobs.specs.Jobs.{AreJobsOf}
 use Rattle.archive_jobs.specs.Lent.{IsRead}
 use Rattle.command_refusals.specs.GoesOn.{DiskGoesOn}
 use Rattle.command_answers.specs.Upgrading.{EndsTexts, header_for}
-use Rattle.upgrade_command.specs.Files.{bares_by, came_by, outcomes_of, read_by, stop_by}
+use Rattle.upgrade_command.specs.Files.{AreReports, came_by, read_by, stop_by}
 use Rattle.upgrade_command.specs.Taking.{TakesNone, TakesTexts}
-use Rattle.upgrade_command.proofs.CameLemmas.{bares_came}
+use Rattle.upgrade_command.proofs.CameLemmas.{came_told}
 use Rattle.upgrade_command.proofs.FillLemmas.{back_whole, did_counted, err_is, ok_is, read_ends}
 use Rattle.upgrade_command.proofs.IntoLemmas.{into_goes, into_names, into_texts}
 use Rattle.upgrade_command.proofs.taking.take_lent.Goals as goal
@@ -45,7 +45,7 @@ returns-in-Ok-answer-clause-taken g c =
     let back = c.second-in-Ok-answer-1.given.1 (sym (taken.ensures.goes.name ∙ begun.name)) in
     record {
       came = came_by files js taken.new.jobs;
-      told = ap (bares_by files) (c.outcomes_of.ensures ∙ ap outcomes_of (c.as_slice.ensures.value ∙ whole)) ∙ bares_came files js taken.new.jobs count (counted ∙ count);
+      told = came_told files js taken.new.jobs c.report_jobs-reports.result.items count (subst (AreReports taken.new.jobs c.report_jobs-reports.result.items) (c.as_slice-files.ensures ∙ c.files.ensures) (subst (λ ks. AreReports ks c.report_jobs-reports.result.items c.as_slice-files.result.now) (c.as_slice.ensures.value ∙ whole) c.report_jobs-reports.ensures));
       takes = subst (λ s. TakesTexts MAX_ROWS s (header_for c.args.old.now.archive.header) (came_by files js taken.new.jobs) g.L.Lent.lent.disk (g.E.Disk.state c.args.second.now) (g.E.Disk.state c.second-in-Ok-answer-1.given.0)) (sym (c.stop_of-stop.ensures ∙ ap (λ last. option_map (stop_by last) c.in-Ok-answer.cause) c.last_gate.ensures))
           (subst (λ d. TakesTexts MAX_ROWS (option_map (stop_by (c.args.old.now.archive.end - 1)) c.in-Ok-answer.cause) (header_for c.args.old.now.archive.header) (came_by files js taken.new.jobs) g.L.Lent.lent.disk (g.E.Disk.state c.args.second.now) (g.E.Disk.state d)) (sym back)
           (into_texts law _ g.L.Lent.lent.disk c.requires.old.opens c.new_header-header.result (c.new_header-header.ensures ∙ ap header_for c.header.ensures) c.args.second.now c.create.new.disk c.begin_made-journal.result taken.result.journal

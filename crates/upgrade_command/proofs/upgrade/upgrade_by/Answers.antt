@@ -1,14 +1,14 @@
-use Rattle.std.proofs.Common.{◌∙◌, refl}
+use Rattle.std.proofs.Common.{refl, subst, sym}
 use Rattle.archive_meaning.specs.declared.TheConstants.{MAX_ROWS}
+use Rattle.file_outcomes.specs.Taken.{AreToldAs}
 use Rattle.upgrade_command.proofs.AnswerLemmas.{files_taken, refused_files, refused_old}
-use Rattle.upgrade_command.proofs.PrintLemmas.{printed_of}
 use Rattle.upgrade_command.proofs.upgrade.upgrade_by.Goals as goal
 
 pub returns-in-Ok-take_files-clause-answers : goal.returns-in-Ok-take_files-clause-answers
 returns-in-Ok-take_files-clause-answers g c = λ content unread opens reads.
     files_taken MAX_ROWS _ (g.D.Disk.state c.args.disk.now) (g.D.Disk.state c.open_old.new.disk) (g.D.Disk.state c.take_files.new.disk) (g.E.Disk.state c.args.second.now) (g.E.Disk.state c.take_files.new.second) _ _ _ c.in-Ok.ensures.old c.open_old.ensures.keeps c.in-Ok.ensures.steady c.take_files.ensures.rests
-    c.in-Ok-take_files.ended.stop c.in-Ok-take_files.ended.outcomes.items c.in-Ok-take_files.ensures.stop c.in-Ok-take_files.ensures.taken
-    (printed_of _ _ c.in-Ok-take_files.ended.stop c.as_slice-files.result.now _ c.as_slice.result.now c.in-Ok-take_files.ended.outcomes.items (c.as_slice-files.ensures ∙ c.files.ensures) c.as_slice.ensures.value (c.print_files.ensures.prints content unread opens reads))
+    c.in-Ok-take_files.ended.stop c.in-Ok-take_files.ended.reports.items c.in-Ok-take_files.ensures.stop c.in-Ok-take_files.ensures.taken
+    (c.print_files.ensures.prints c.in-Ok-take_files.ensures.taken.came (subst (AreToldAs c.in-Ok-take_files.ensures.taken.came) (sym c.as_slice.ensures.value) c.in-Ok-take_files.ensures.taken.told) content unread opens reads)
 
 pub returns-in-Ok-clause-answers : goal.returns-in-Ok-clause-answers
 returns-in-Ok-clause-answers g c = λ content unread opens reads.

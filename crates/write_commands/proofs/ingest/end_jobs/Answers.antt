@@ -1,4 +1,4 @@
-use Rattle.std.proofs.Common.{arith, ap, refl, sym, ℕ, List, [], ◌<◌, ◌∙◌, ◌∷◌, None, Some, get_or, length, map}
+use Rattle.std.proofs.Common.{arith, ap, sym, ℕ, List, [], ◌<◌, ◌∙◌, ◌∷◌, None, Some, get_or, length, map}
 use Rattle.std.proofs.lemmas.List.{map-append}
 use Rattle.std.specs.Borrow.{Bor}
 use Rattle.std.proofs.lemmas.List.{get_or_default}
@@ -19,7 +19,7 @@ loop-job-preserved g c =
     let next = next_of c.args.jobs.now.items (length c.loop-job.taken.items) c.in-Some.job _ (before.left ∙ popped_of _ _ _ c.in-Some.ensures.items) in
     record {
       named = named_next str_bytes (λ (file : FileReport). file.name.now) c.args.names.now c.loop-job.taken.items _ c.len-place.result name _
-          (omega (arith, c.len-place.ensures)) within (get_or_default c.args.names.now c.len-place.result none name within) refl c.push_reserved.ensures.items before.named;
+          (omega (arith, c.len-place.ensures)) within (get_or_default c.args.names.now c.len-place.result none name within) c.as_bytes.ensures.value c.push_reserved.ensures.items before.named;
       count = omega (arith, c.push_reserved.ensures.len, c.in-Some.ensures.len, before.count);
       room = c.push_reserved.ensures.capacity ∙ before.room;
       ended = omega (arith, c.push_reserved-in-Some.ensures.len, c.push_reserved.ensures.len, before.ended);

@@ -15,7 +15,7 @@ loop-name-preserved c =
     let name = get_or c.args.names.now c.loop-name.name-index none in
     record {
       named = named_next str_bytes (λ (file : FileReport). file.name.now) c.args.names.now c.loop-name.taken.items _ c.loop-name.name-index name _ (omega (arith, before.count)) c.loop-name-test.true
-          (get_or_default c.args.names.now c.loop-name.name-index none name c.loop-name-test.true) refl c.push_reserved.ensures.items before.named;
+          (get_or_default c.args.names.now c.loop-name.name-index none name c.loop-name-test.true) c.as_bytes.ensures.value c.push_reserved.ensures.items before.named;
       count = omega (arith, c.push_reserved.ensures.len, before.count);
       room = c.push_reserved.ensures.capacity ∙ before.room;
       begun = rw c.push_reserved.ensures.items (All-push IsNotBegun c.loop-name.taken.items _ before.begun (record { messages = refl; whole = refl; refusal = refl }));

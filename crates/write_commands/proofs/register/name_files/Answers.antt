@@ -10,6 +10,8 @@ use Rattle.file_outcomes.specs.StepsKnown.{IsNoDamage}
 use Rattle.file_outcomes.proofs.AppendLemmas.{is_named, may_add, names_more}
 use Rattle.write_commands.proofs.CauseLemmas.{many_cause, refused_with, register_cause, register_undamaged, undamaged_with}
 use Rattle.file_lines.proofs.DirectoryLemmas.{on_err}
+use Rattle.disk_seal.specs.Registered.{HasRegistered}
+use Rattle.name_records.proofs.NamedLemmas.{group_failed, group_named}
 use Rattle.write_commands.proofs.RegisterLemmas.{ended_alone, from_named, not_named}
 use Rattle.file_outcomes.proofs.StepsLemmas.{same_nothing}
 use Rattle.command_refusals.proofs.GoingLemmas.{DiskGoesOn-left, DiskGoesOn-same}
@@ -29,41 +31,28 @@ returns-clause-goes_on g c =
 pub returns-clause-more : goal.returns-clause-more
 returns-clause-more g c =
     let named = c.in_ok-first.ensures in
-    names_more (state_of c.args.journal.now) (state_of c.register.new.journal) c.args.holding.types c.args.holding.words c.args.holding.files c.requires.held (map str_bytes c.args.names.now)
-    (record {
-      adds = may_add c.args.holding.files (map str_bytes c.args.names.now) c.requires.names.unrefused (omega (arith, c.requires.names.some, length-map c.args.names.now str_bytes)) (omega (arith, c.in_default.ensures, length-map c.args.names.now str_bytes));
-      goes = named.goes_on;
-      added = rw (c.in_ok-texts.ensures) at named.registered.added;
-      fits = rw (c.in_ok-texts.ensures) at named.registered.fits;
-      opens = named.registered.opens;
-    })
+    let adds = may_add c.args.holding.files (map str_bytes c.args.names.now) c.requires.names.unrefused (omega (arith, c.requires.names.some, length-map c.args.names.now str_bytes)) (omega (arith, c.in_default.ensures, length-map c.args.names.now str_bytes)) in
+    let has : HasRegistered c.args.holding.files (map str_bytes c.args.names.now) (state_of c.args.journal.now) (state_of c.register.new.journal) = record { added = rw (c.in_ok-texts.ensures) at named.registered.added; fits = rw (c.in_ok-texts.ensures) at named.registered.fits; opens = named.registered.opens } in
+    names_more (state_of c.args.journal.now) (state_of c.register.new.journal) c.args.holding.types c.args.holding.words c.args.holding.files c.requires.held (map str_bytes c.args.names.now) adds
+    (group_named (state_of c.args.journal.now) (state_of c.register.new.journal) c.args.holding.files (map str_bytes c.args.names.now) (record { opens = c.requires.held.opens; holds = c.requires.held.names; adds = adds }) named.goes_on (rw (c.in_ok-texts.ensures) at named.moments) named.counts.steady has)
+    has.added.count
 
 pub returns-clause-named : goal.returns-clause-named
 returns-clause-named g c =
     let named = c.in_ok-first.ensures in
-    is_named (state_of c.args.journal.now) (state_of c.register.new.journal) c.args.holding.types c.args.holding.words c.args.holding.files c.requires.held (map str_bytes c.args.names.now)
-    (record {
-      adds = may_add c.args.holding.files (map str_bytes c.args.names.now) c.requires.names.unrefused (omega (arith, c.requires.names.some, length-map c.args.names.now str_bytes)) (omega (arith, c.in_default.ensures, length-map c.args.names.now str_bytes));
-      goes = named.goes_on;
-      added = rw (c.in_ok-texts.ensures) at named.registered.added;
-      fits = rw (c.in_ok-texts.ensures) at named.registered.fits;
-      opens = named.registered.opens;
-    })
+    let adds = may_add c.args.holding.files (map str_bytes c.args.names.now) c.requires.names.unrefused (omega (arith, c.requires.names.some, length-map c.args.names.now str_bytes)) (omega (arith, c.in_default.ensures, length-map c.args.names.now str_bytes)) in
+    let has : HasRegistered c.args.holding.files (map str_bytes c.args.names.now) (state_of c.args.journal.now) (state_of c.register.new.journal) = record { added = rw (c.in_ok-texts.ensures) at named.registered.added; fits = rw (c.in_ok-texts.ensures) at named.registered.fits; opens = named.registered.opens } in
+    is_named (state_of c.args.journal.now) (state_of c.register.new.journal) c.args.holding.types c.args.holding.words c.args.holding.files c.requires.held (map str_bytes c.args.names.now) adds
+    (group_named (state_of c.args.journal.now) (state_of c.register.new.journal) c.args.holding.files (map str_bytes c.args.names.now) (record { opens = c.requires.held.opens; holds = c.requires.held.names; adds = adds }) named.goes_on (rw (c.in_ok-texts.ensures) at named.moments) named.counts.steady has)
     c.in_ok-first.first (length c.args.names.now) named.number (omega (arith, length-map c.args.names.now str_bytes))
 
 pub returns-clause-names : goal.returns-clause-names
 returns-clause-names g c =
     let named = c.in_ok-first.ensures in
-    from_named (state_of c.args.journal.now) (state_of c.register.new.journal) c.args.holding.types c.args.holding.words c.args.holding.files c.requires.held
-    (g.met.D.Disk.lawful c.register.new.journal.disk.now) (map str_bytes c.args.names.now)
-    (record {
-      adds = may_add c.args.holding.files (map str_bytes c.args.names.now) c.requires.names.unrefused (omega (arith, c.requires.names.some, length-map c.args.names.now str_bytes)) (omega (arith, c.in_default.ensures, length-map c.args.names.now str_bytes));
-      goes = named.goes_on;
-      added = rw (c.in_ok-texts.ensures) at named.registered.added;
-      fits = rw (c.in_ok-texts.ensures) at named.registered.fits;
-      opens = named.registered.opens;
-    })
-    (rw (c.in_ok-texts.ensures) at named.moments)
+    let adds = may_add c.args.holding.files (map str_bytes c.args.names.now) c.requires.names.unrefused (omega (arith, c.requires.names.some, length-map c.args.names.now str_bytes)) (omega (arith, c.in_default.ensures, length-map c.args.names.now str_bytes)) in
+    let has : HasRegistered c.args.holding.files (map str_bytes c.args.names.now) (state_of c.args.journal.now) (state_of c.register.new.journal) = record { added = rw (c.in_ok-texts.ensures) at named.registered.added; fits = rw (c.in_ok-texts.ensures) at named.registered.fits; opens = named.registered.opens } in
+    from_named (state_of c.args.journal.now) (state_of c.register.new.journal) c.args.holding.types c.args.holding.words c.args.holding.files c.requires.held (map str_bytes c.args.names.now)
+    (group_named (state_of c.args.journal.now) (state_of c.register.new.journal) c.args.holding.files (map str_bytes c.args.names.now) (record { opens = c.requires.held.opens; holds = c.requires.held.names; adds = adds }) named.goes_on (rw (c.in_ok-texts.ensures) at named.moments) named.counts.steady has)
     c.in_ok-first.first named.number
 
 -- ---- refused
@@ -99,11 +88,11 @@ returns-in_err-first-clause-nothing g c =
     let named = c.register.ensures in
     let alone = rw (c.in_ok-texts.ensures) at named.alone in
     on_err c.from_residual-in_err-first.result
-    (not_named (state_of c.args.journal.now) (state_of c.register.new.journal) c.args.holding.types c.args.holding.words c.args.holding.files c.requires.held
-    (g.met.D.Disk.lawful c.args.journal.now.disk.now) (g.met.D.Disk.lawful c.register.new.journal.disk.now) (map str_bytes c.args.names.now)
-    (may_add c.args.holding.files (map str_bytes c.args.names.now) c.requires.names.unrefused (omega (arith, c.requires.names.some, length-map c.args.names.now str_bytes)) (omega (arith, c.in_default.ensures, length-map c.args.names.now str_bytes)))
-    (rw (c.in_ok-texts.ensures) at named.moments)
-    (λ far. ap (λ (x : MutBor g.row.D.Denot). g.D.Disk.state x.now) (alone (inl far)))
+    (not_named (state_of c.args.journal.now) (state_of c.register.new.journal) c.args.holding.types c.args.holding.words c.args.holding.files c.requires.held (map str_bytes c.args.names.now)
+    (g.met.D.Disk.lawful c.args.journal.now.disk.now) (g.met.D.Disk.lawful c.register.new.journal.disk.now)
+    (group_failed (state_of c.args.journal.now) (state_of c.register.new.journal) c.args.holding.files (map str_bytes c.args.names.now)
+    (record { opens = c.requires.held.opens; holds = c.requires.held.names; adds = may_add c.args.holding.files (map str_bytes c.args.names.now) c.requires.names.unrefused (omega (arith, c.requires.names.some, length-map c.args.names.now str_bytes)) (omega (arith, c.in_default.ensures, length-map c.args.names.now str_bytes)) })
+    named.goes_on (rw (c.in_ok-texts.ensures) at named.moments) (g.met.D.Disk.lawful c.args.journal.now.disk.now) (λ far. ap (λ (x : MutBor g.row.D.Denot). g.D.Disk.state x.now) (alone (inl far))))
     (ended_alone (state_of c.args.journal.now) (state_of c.register.new.journal) c.register.result c.in_err-first.field-0.0 c.in_err-first.was
     (λ e. ap (λ (x : MutBor g.row.D.Denot). g.D.Disk.state x.now) (alone (inr e))) (λ end need e. ap (λ (x : MutBor g.row.D.Denot). g.D.Disk.state x.now) (named.full end need e).1) named.counts))
 

@@ -2,7 +2,7 @@ use Rattle.std.proofs.Common.{◌∙◌, ℕ, List, [], arith, get_or}
 use Rattle.std.specs.Borrow.{Bor}
 use Rattle.std.proofs.lemmas.List.{get_or_default}
 use Rattle.log_sources.specs.Sources.{str_bytes}
-use Rattle.file_outcomes.proofs.AppendLemmas.{texts_next}
+use Rattle.name_records.proofs.NamedLemmas.{texts_next}
 use Rattle.write_commands.proofs.register.texts_of.Goals as goal
 
 pub loop-name-preserved : goal.loop-name-preserved

@@ -1,6 +1,6 @@
 use Rattle.std.specs.Prelude.{is_some}
 use Rattle.command_answers.specs.Known.{are_of}
-use Rattle.merge_command.proofs.merge.add_known.Given as goal
+use Rattle.write_commands.proofs.ingest.ingest_files.Given as goal
 
 -- the disk that is lent, whose bytes are told where they are those of the archive that is known
 abbrev pub ghosts-add_lent : goal.ghosts-add_lent
