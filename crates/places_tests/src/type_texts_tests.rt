@@ -4,7 +4,7 @@ use crate::archive::{ARCHIVE, TYPES, WORDS, changed, disk};
 use log_seams::MemDisk;
 use std::alloc::{AllocError, Global};
 use std::test::Fail;
-use word_places::{HoldRefusal, TypeTexts};
+use word_places::{HoldRefusal, TakesTexts, TypeTexts, take_texts};
 
 // Whether the texts are these.
 fn has_texts(types: &TypeTexts, texts: &[&[u8]]) -> bool {
@@ -21,7 +21,7 @@ fn has_texts(types: &TypeTexts, texts: &[&[u8]]) -> bool {
 fn reads_type(alloc: Global) -> Result<bool, HoldRefusal> {
     let mut disk = disk(alloc, &ARCHIVE, &[])?;
     let types = TypeTexts::read(alloc, &mut disk, TYPES)?;
-    Ok(has_texts(&types, &[b"of \x12"]))
+    Ok(has_texts(&types, &[b"of \x12"]) && !types.left_out() && types.places() == TYPES)
 }
 
 #[test]
@@ -53,6 +53,45 @@ fn reads_both_of(alloc: Global) -> Result<bool, HoldRefusal> {
 #[test]
 fn each_record_is_read_once(rt: HostRuntime) {
     assert!(rt; reads_both_of(rt.alloc()) == Ok(true));
+}
+
+// Keeps the texts of three bytes and more, and leaves the others out.
+#[derive(Drop)]
+struct LongTexts {
+    types: TypeTexts,
+}
+
+impl TakesTexts for LongTexts {
+    ghost took = { λ _ _ _. Unit {0} };
+
+    fn take(&mut self, text: &[u8]) -> Result<(), AllocError> {
+        if text.len() < 3 {
+            return self.types.leave_out();
+        }
+        self.types.keep(text)
+    }
+
+    ghost none = { λ _. tt };
+
+    ghost both = { λ _ _ _ _ _ _ _. tt };
+}
+
+// Whether texts are left out, each with its number, and each record is read once.
+fn leaves_out(alloc: Global, disk: &mut MemDisk) -> Result<bool, HoldRefusal> {
+    let types = TypeTexts::begin(alloc, WORDS)?;
+    let mut long = LongTexts { types };
+    take_texts(disk, WORDS, &mut Vec::new(alloc), &mut long)?;
+    let texts: &[&[u8]] = &[b"alpha", b"", b"", b"alphabet", b""];
+    Ok(has_texts(&long.types, texts) && long.types.left_out() && disk.calls() == 2)
+}
+
+fn leaves_out_of(alloc: Global) -> Result<bool, HoldRefusal> {
+    leaves_out(alloc, &mut disk(alloc, &ARCHIVE, &[])?)
+}
+
+#[test]
+fn texts_are_left_out_as_they_are_read(rt: HostRuntime) {
+    assert!(rt; leaves_out_of(rt.alloc()) == Ok(true));
 }
 
 // Why the texts of two records of these bytes are not read.

@@ -12,7 +12,7 @@ use std::alloc::{AllocError, Global};
 use std::test::Fail;
 use word_places::{
     Fit, HeldWords, HoldRefusal, Needle, find_words, held_agree, held_stay, holders_have,
-    rows_are_local, word_found,
+    rows_are_local, rows_are_of_type, word_found, words_are_one,
 };
 
 // ---- the pass
@@ -194,6 +194,7 @@ fn has_second(held: &HeldWords) -> bool {
         && held.word_number(b"alphabet") == Some(3)
         && held.word_number(b"alpha").is_none()
         && held.record_count() == 2
+        && !held.kept().left_out()
         && !held.micro()
 }
 
@@ -407,7 +408,9 @@ fn what_two_shares_read_is_kept_once(rt: HostRuntime) {
 #[test]
 fn laws_hold() {
     rows_are_local();
+    rows_are_of_type();
     held_agree();
     held_stay();
     holders_have();
+    words_are_one();
 }

@@ -7,4 +7,4 @@ pub mod ReadLemmas
 pub mod SlotLemmas
 pub mod FoundLemmas
 pub mod SharedLemmas
-pub mod TypeLemmas
+pub mod TakenLemmas

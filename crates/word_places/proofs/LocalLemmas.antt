@@ -1,7 +1,7 @@
 -- What a row means depends on no other texts than those that its numbers name.
 use Rattle.std.proofs.Common.{◌≡◌, ℕ, suc, List, [], ◌∷◌, map, refl, sym, ◌∙◌, ap, subst, arith}
-use Rattle.std.specs.Prelude.{Contains, Some, slice_get, false}
-use Rattle.std.proofs.lemmas.Option.{get_or_from_slice_get}
+use Rattle.std.specs.Prelude.{Contains, Option, Some, slice_get, unwrap_or, false}
+use Rattle.std.proofs.lemmas.Option.{get_or_from_slice_get, unwrap_or-slice_get}
 use Rattle.logtype_text.specs.declared.symbols.Kind.{Kind}
 use Rattle.logtype_text.specs.declared.symbols.Kind.TheVariants.{Whole, Word, Decimal}
 use Rattle.logtype_text.specs.Parts.{Part, Constant, Variable, symbol_of}
@@ -10,7 +10,7 @@ use Rattle.column_store.specs.declared.row.Row.{Row}
 use Rattle.row_codec.specs.Means.{EachWord, HasWord, IsWritten}
 use Rattle.row_codec.specs.Numbers.{kinds_from, numbers_of_row, word_numbers}
 use Rattle.row_codec.proofs.EncoderLemmas.{kinds_are, slots}
-use Rattle.word_places.specs.Local.{Agree, EncodingIsLocal, MeaningIsLocal, SpellingIsLocal}
+use Rattle.word_places.specs.Local.{Agree, EncodingIsLocal, EncodingIsOfType, MeaningIsLocal, MeaningIsOfType, NumbersAreOfType, SpellingIsLocal, SpellingIsOfType}
 
 here : (n : ℕ) (numbers : List ℕ) → Contains (n ∷ numbers) n
 here n numbers = (0, omega arith, refl)
@@ -73,3 +73,34 @@ meaning_is_local row types a b message agree is = record {
 pub encoding_is_local : EncodingIsLocal
 unfolding meaning_is_local
 encoding_is_local version row types a b message agree is = record { means = meaning_is_local row types a b message agree is.means; body = is.body; stamp = is.stamp }
+
+-- ---- the log types
+
+pub numbers_are_of_type : NumbersAreOfType
+numbers_are_of_type row a b same =
+    ap (λ (text : List ℕ). word_numbers (kinds_from false text) row.words)
+    (sym (unwrap_or-slice_get a row.log_type []) ∙ ap (λ (o : Option (List ℕ)). unwrap_or o []) same ∙ unwrap_or-slice_get b row.log_type [])
+
+pub spelling_is_of_type : SpellingIsOfType
+spelling_is_of_type row a b words message same is = record {
+  stamp = is.stamp;
+  parts = is.parts;
+  typed = sym same ∙ is.typed;
+  written = is.written;
+  stamped = is.stamped;
+  is = is.is;
+}
+
+pub meaning_is_of_type : MeaningIsOfType
+meaning_is_of_type row a b words message same is = record {
+  stamp = is.stamp;
+  parts = is.parts;
+  typed = sym same ∙ is.typed;
+  coded = is.coded;
+  stamped = is.stamped;
+  is = is.is;
+}
+
+pub encoding_is_of_type : EncodingIsOfType
+unfolding meaning_is_of_type
+encoding_is_of_type version row a b words message same is = record { means = meaning_is_of_type row a b words message same is.means; body = is.body; stamp = is.stamp }

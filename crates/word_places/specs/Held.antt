@@ -1,15 +1,29 @@
 -- Words of which some records are held in memory.
-use Rattle.std.specs.Prelude.{◌≡◌, ◌<◌, ◌≤◌, ◌^◌, ℕ, ◌+◌, List, [], ◌∷◌, ◌++◌, length, map, replicate, Option, Some, None, IfSome, All, Contains, slice_get}
+use Rattle.std.specs.Prelude.{◌≡◌, ◌<◌, ◌≤◌, ◌^◌, ℕ, ◌+◌, Bool, List, [], ◌∷◌, ◌++◌, length, map, replicate, Option, Some, None, IfSome, All, Contains, slice_get}
 use Rattle.std.specs.List.{AllZip}
 use Rattle.word_places.specs.declared.place.WordsPlace.{WordsPlace}
 use Rattle.word_places.specs.declared.held.HeldRecord.{HeldRecord}
 use Rattle.word_places.specs.Places.{Spells, payload_in}
+use Rattle.word_places.specs.Kept.{KeptTypes}
 
--- names whose log types are these, and whose words are those of records
+-- names whose log types are these, some of which may have been left out, and whose words are those of records
 pub record HeldNames : Type 0 where
   pub types : List (List ℕ)
+  pub left_out : Bool
+  pub type_places : List WordsPlace
   pub version : ℕ
   pub records : List HeldRecord
+
+-- the log types of the names, as they were kept
+abbrev pub kept_of : HeldNames → KeptTypes
+kept_of names = record { texts = names.types; left_out = names.left_out; places = names.type_places }
+
+-- all but the records stays
+pub record KeepsTypes (old new : HeldNames) : Type 0 where
+  pub types : new.types ≡ old.types
+  pub left_out : new.left_out ≡ old.left_out
+  pub type_places : new.type_places ≡ old.type_places
+  pub version : new.version ≡ old.version
 
 -- a record that was not read
 abbrev pub unread : WordsPlace → HeldRecord

@@ -1,7 +1,8 @@
--- What follows of words that are held, and of the numbers that a pass finds.
+-- What follows of words that are held, of the numbers that a pass finds, and of words that stand at places.
 use Rattle.std.specs.Prelude.{◌≡◌, ℕ, ◌+◌, List, All, Contains, Some, slice_get}
 use Rattle.word_places.specs.declared.held.HeldRecord.{HeldRecord}
 use Rattle.word_places.specs.declared.needle.Fit.{Fit}
+use Rattle.word_places.specs.declared.place.WordsPlace.{WordsPlace}
 use Rattle.word_places.specs.Places.{AreWords}
 use Rattle.word_places.specs.Held.{AreNumbered, Grow, IsHeld, IsRight, lends, places_of}
 use Rattle.word_places.specs.Holders.{HasNeedle, Holders}
@@ -25,3 +26,9 @@ HoldersHave =
     (fit : Fit) (needle text : List ℕ) (first at : ℕ) (texts : List (List ℕ)) (numbers : List ℕ)
     → Holders fit needle first texts numbers → slice_get texts at ≡ Some text → HasNeedle fit needle text
     → Contains numbers (first + at)
+
+-- words that stand at the same places of the same bytes are the same
+abbrev pub WordsAreOne : Type 0
+WordsAreOne =
+    (from : ℕ) (places : List WordsPlace) (bytes : List ℕ) (a b : List (List ℕ))
+    → AreWords from places bytes a → AreWords from places bytes b → a ≡ b

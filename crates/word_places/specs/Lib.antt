@@ -1,5 +1,7 @@
 pub mod Places
 pub mod Record
+pub mod Kept
+pub mod Taken
 pub mod Held
 pub mod Shared
 pub mod Holders
@@ -8,3 +10,4 @@ pub mod Reads
 pub mod Laws
 pub mod StepsHeld
 pub mod StepsFound
+pub mod StepsKept

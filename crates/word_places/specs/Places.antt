@@ -1,5 +1,5 @@
 -- What the places of records of words mean.
-use Rattle.std.specs.Prelude.{◌≡◌, ◌<◌, ◌≤◌, ◌^◌, ℕ, ◌+◌, List, [], ◌∷◌, ◌++◌, length, take, drop, Option, Some, None}
+use Rattle.std.specs.Prelude.{◌≡◌, ◌<◌, ◌≤◌, ◌^◌, ℕ, ◌+◌, List, [], ◌∷◌, ◌++◌, length, take, drop, Option, Some, None, IfSome}
 use Rattle.record_format.specs.Lists.{AreTexts, texts_payload}
 use Rattle.word_places.specs.declared.place.WordsPlace.{WordsPlace}
 
@@ -28,10 +28,19 @@ abbrev pub OfWords : Option (List ℕ) → List WordsPlace → (List (List ℕ) 
 OfWords None places P = Unit {0}
 OfWords (Some bytes) places P = (words : List (List ℕ)) → AreWords 0 places bytes words → P words
 
--- the same of the texts of one record
+-- there are words that stand at these places, where the disk tells its bytes, and P holds of them
+abbrev pub SomeWords : Option (List ℕ) → List WordsPlace → (List (List ℕ) → Type 0) → Type 0
+SomeWords told places P = (words : List (List ℕ)) × IfSome told (λ bytes. AreWords 0 places bytes words) × P words
+
+-- P holds of the texts of one record, whatever they are
 abbrev pub OfTexts : Option (List ℕ) → WordsPlace → (List (List ℕ) → Type 0) → Type 0
 OfTexts None p P = Unit {0}
 OfTexts (Some bytes) p P = (texts : List (List ℕ)) → Spells p (payload_in p bytes) texts → P texts
+
+-- there are texts of one record, and P holds of them
+abbrev pub SomeTexts : Option (List ℕ) → WordsPlace → (List (List ℕ) → Type 0) → Type 0
+SomeTexts told p P =
+    (texts : List (List ℕ)) × IfSome told (λ bytes. Spells p (payload_in p bytes) texts) × P texts
 
 -- The numbers of each record go on where those of the one before end, from a number on, and none has more than 32 bits.
 abbrev pub AreInOrder : ℕ → List WordsPlace → Type 0

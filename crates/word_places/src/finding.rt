@@ -12,7 +12,7 @@ ghost use Rattle.word_places.specs.StepsFound.{AddsEach};
 use crate::needle::Needle;
 use crate::pass::add_holders;
 use crate::place::{WordsPlace, place_at};
-use crate::reading::load;
+use crate::reading::{front_of, load};
 use crate::refusal::HoldRefusal;
 use log_seams::Disk;
 use plain_list::NumberList;
@@ -56,8 +56,8 @@ fn needle_at<'a, 'n>(needles: &'a [Needle<'n>], index: usize) -> &'a Needle<'n>
     &needles[index]
 }
 
-// Adds to the list of each needle the numbers of those texts that have it, as `add_holders` does that
-// for one. The payload stays in the processor's cache from one needle to the next.
+// Adds to the list of each needle the numbers of those texts that have it, as `add_holders` does
+// that for one. The payload stays in the processor's cache from one needle to the next.
 fn add_each(
     alloc: Global,
     bytes: &[u8],
@@ -94,16 +94,8 @@ fn add_each(
     Ok(true)
 }
 
-// The first bytes of a buffer.
-fn front_of(buffer: &[u8], size: usize) -> &[u8]
-    requires { size ≤ length buffer.now }
-    ensures { result.now ≡ take size buffer.now }
-{
-    &buffer[..size]
-}
-
-// Adds to the list of each needle the numbers of those words of a record that have it. The payload is
-// read into the front of the buffer.
+// Adds to the list of each needle the numbers of those words of a record that have it. The payload
+// is read into the front of the buffer.
 fn add_record<D: Disk>(
     alloc: Global,
     disk: &mut D,
@@ -142,13 +134,13 @@ fn add_record<D: Disk>(
     Ok(())
 }
 
-/// The numbers of those words that have a needle, in order, a list for each needle. The payload of each
-/// record is read once for all of them, into the front of a buffer, which can be used again.
+/// The numbers of those words that have a needle, in order, a list for each needle. The payload of
+/// each record is read once for all of them, into the front of a buffer, which can be used again.
 ///
 /// # Errors
 ///
-/// `DiskFault`, where the disk's count of faults rose; `Damaged`, where its bytes have no words at these
-/// places; or `OutOfMemory`.
+/// `DiskFault`, where the disk's count of faults rose; `Damaged`, where its bytes have no words at
+/// these places; or `OutOfMemory`.
 pub fn find_words<D: Disk>(
     alloc: Global,
     disk: &mut D,

@@ -11,8 +11,8 @@ use crate::order::place_at;
 use crate::slots::read_kind;
 use logtype_text::Kind;
 
-/// Numbers of words whose records may not have been read: from the first of them up to the end, which is
-/// not among them.
+/// Numbers of words whose records may not have been read: from the first of them up to the end,
+/// which is not among them.
 #[derive(Clone, Copy, Debug)]
 pub(crate) struct Gap {
     first: u64,
@@ -45,8 +45,8 @@ fn is_beside(gap: Gap, number: u64) -> bool
     number < gap.first || gap.end <= number
 }
 
-// Whether it is known of a number that it is held, if some word has it. One of the gap has its record
-// looked at.
+// Whether it is known of a number that it is held, if some word has it. One of the gap has its
+// record looked at.
 #[inline]
 fn is_known(records: &[HeldRecord], hints: &[u32], gap: Gap, number: u64) -> bool
     requires numbered { AreNumbered 0 records.now }
@@ -62,8 +62,9 @@ fn is_known(records: &[HeldRecord], hints: &[u32], gap: Gap, number: u64) -> boo
     }
 }
 
-/// Whether it is known of each of these numbers that it is held, if some word has it: it stands before the
-/// first record that was not read, is past the last word, or is one of a record that was read.
+/// Whether it is known of each of these numbers that it is held, if some word has it: it stands
+/// before the first record that was not read, is past the last word, or is one of a record that was
+/// read.
 #[inline]
 pub(crate) fn are_held(records: &[HeldRecord], hints: &[u32], front: usize, numbers: &[u64]) -> bool
     requires numbered { AreNumbered 0 records.now }

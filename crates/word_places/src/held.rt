@@ -2,7 +2,7 @@
 ghost use Rattle.std.specs.Prelude.{◌≡◌, [], false, IsTrue, length, map, slice_index_or, IfOk};
 ghost use Rattle.column_store.specs.Row.{row_of};
 ghost use Rattle.row_codec.specs.Numbers.{kinds_from, numbers_of_row};
-ghost use Rattle.word_places.specs.Held.{AreHeld, AreNumbered, HeldNames, unread};
+ghost use Rattle.word_places.specs.Held.{AreHeld, AreNumbered, HeldNames, kept_of, unread};
 ghost use Rattle.word_places.specs.Places.{AreInOrder};
 ghost use Rattle.word_places.specs.StepsHeld.{HaveSlots};
 
@@ -23,8 +23,9 @@ use std::sync::Arc;
 /// The first version whose moments count microseconds.
 const MICRO_VERSION: u32 = 3;
 
-/// Of how many log types the slots are kept beside their texts: the first ones, which most rows have, since
-/// a log type gets its number where its text is first met. Free to tune: of others the text is read.
+/// Of how many log types the slots are kept beside their texts: the first ones, which most rows
+/// have, since a log type gets its number where its text is first met. Free to tune: of others the
+/// text is read.
 const SLOT_TYPES: u16 = 1024;
 
 /// A record of words: where it stands, and its words, once they are read.
@@ -48,16 +49,17 @@ impl Common {
     /// What tells the slots of a log type.
     #[inline]
     pub(crate) fn slots_at(&self, log_type: u32) -> &[u8]
-        requires { HaveSlots self.now.types self.now.slots }
+        requires { HaveSlots self.now.types.texts self.now.slots }
         ensures { kinds_from false result.now
-            ≡ kinds_from false (slice_index_or self.now.types log_type []) }
+            ≡ kinds_from false (slice_index_or self.now.types.texts log_type []) }
     {
         slots_at(&self.slots, &self.types, log_type)
     }
 }
 
-/// The log types of an archive, and its words as far as their records were read. As [`Names`] it has an
-/// empty text for each word of a record that was not read.
+/// The log types of an archive, and its words as far as their records were read. As [`Names`] it
+/// has an empty text for each word of a record that was not read, and for each log type that was
+/// left out.
 #[derive(Drop)]
 pub struct HeldWords {
     pub(crate) alloc: Global,
@@ -75,18 +77,20 @@ impl Model for HeldWords {
     ghost Value = { HeldNames };
 
     ghost view = { λ h. record {
-      types = h.common.value.types;
+      types = h.common.value.types.texts;
+      left_out = h.common.value.types.left_out;
+      type_places = h.common.value.types.places;
       version = h.version;
       records = h.records.items;
     } };
 
     ghost invariant = { λ h. AreNumbered 0 h.records.items × AreReadTo h.front h.records.items
-        × HaveSlots h.common.value.types h.common.value.slots };
+        × HaveSlots h.common.value.types.texts h.common.value.slots };
 }
 
 impl HeldWords {
-    /// The words of records at these places, none of which is read, beside the log types of an archive
-    /// of this version.
+    /// The words of records at these places, none of which is read, beside the log types of an
+    /// archive of this version, as they were kept.
     pub fn new(
         alloc: Global,
         types: TypeTexts,
@@ -94,7 +98,7 @@ impl HeldWords {
         places: &[WordsPlace],
     ) -> Result<HeldWords, AllocError>
         requires { AreInOrder 0 places.now }
-        ensures types { IfOk result (λ held. held.types ≡ types) }
+        ensures types { IfOk result (λ held. kept_of held ≡ types) }
         ensures version { IfOk result (λ held. held.version ≡ version) }
         ensures records { IfOk result (λ held. held.records ≡ map unread places.now) }
     {
@@ -124,6 +128,13 @@ impl HeldWords {
         })
     }
 
+    /// The log types, as they were kept.
+    pub fn kept(&self) -> &TypeTexts
+        ensures { result.now ≡ kept_of self.now }
+    {
+        &self.common.types
+    }
+
     /// How many records there are. The numbers of their words go on from one to the next.
     pub fn record_count(&self) -> usize
         ensures count { result ≡ length self.now.records }
@@ -132,10 +143,10 @@ impl HeldWords {
         self.records.len()
     }
 
-    /// Whether it is known that all words of a row are held, so that none has to be asked: by a compare
-    /// for each of its numbers, and by a look at the record of one that stands behind a record that was
-    /// not read. One that is past the last word is no word. Where a number may be that of a word which is
-    /// not held, the slots of the log type tell whether it is one.
+    /// Whether it is known that all words of a row are held, so that none has to be asked: by a
+    /// compare for each of its numbers, and by a look at the record of one that stands behind a
+    /// record that was not read. One that is past the last word is no word. Where a number may be
+    /// that of a word which is not held, the slots of the log type tell whether it is one.
     #[inline]
     pub fn has_row(&self, row: RowRef<'_>) -> bool
         ensures held { IsTrue result

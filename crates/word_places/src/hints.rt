@@ -19,8 +19,8 @@ fn blocks_to(place: WordsPlace) -> u64 {
     (u64::from(place.first) + u64::from(place.count) + BLOCK) >> SHIFT
 }
 
-/// Where the first number of each block of numbers stands: the place of its record. These are hints, and
-/// nothing rests on them.
+/// Where the first number of each block of numbers stands: the place of its record. These are
+/// hints, and nothing rests on them.
 pub(crate) fn hints_of(alloc: Global, places: &[WordsPlace]) -> Result<Vec<u32>, AllocError> {
     let mut hints = Vec::new(alloc);
     let mut at: u32 = 0;
@@ -55,8 +55,8 @@ fn hint_at(hints: &[u32], number: u32) -> usize {
     }
 }
 
-/// The place of the record that has a number; `None` where no word has it. It is that of the hint or the
-/// one behind it, or else is found by halving.
+/// The place of the record that has a number; `None` where no word has it. It is that of the hint
+/// or the one behind it, or else is found by halving.
 #[inline]
 pub(crate) fn record_near(records: &[HeldRecord], hints: &[u32], number: u32) -> Option<usize>
     requires { AreNumbered 0 records.now }

@@ -4,7 +4,7 @@ ghost use Rattle.log_seams.specs.Disk.{Rests};
 ghost use Rattle.log_seams.specs.Outside.{CountsOf};
 ghost use Rattle.column_store.specs.Row.{row_of};
 ghost use Rattle.row_codec.specs.Numbers.{numbers_of_row};
-ghost use Rattle.word_places.specs.Held.{AreHeld, AreNumbered, Grow, HasNumber, IsHeld, RightTold, lends, places_of};
+ghost use Rattle.word_places.specs.Held.{AreHeld, AreNumbered, Grow, HasNumber, IsHeld, KeepsTypes, RightTold, lends, places_of};
 ghost use Rattle.word_places.specs.Local.{Agree};
 ghost use Rattle.word_places.specs.StepsHeld.{AreReadTo, Puts, TellsRead};
 ghost use Rattle.word_places.specs.Places.{OfWords};
@@ -23,14 +23,14 @@ use log_seams::Disk;
 use std::alloc::Global;
 
 impl HeldWords {
-    /// Reads the record that has a word's number, where it was not read yet. A number that no word has
-    /// asks nothing.
+    /// Reads the record that has a word's number, where it was not read yet. A number that no word
+    /// has asks nothing.
     pub fn hold<D: Disk>(&mut self, disk: &mut D, number: u32) -> Result<(), HoldRefusal>
         // what stays
         ensures rests { Rests (D.state disk.old) (D.state disk.new) }
         ensures reads { ReadsOneOf (places_of self.old.records)
             (D.state disk.old) (D.state disk.new) }
-        ensures same { (self.new.types ≡ self.old.types) × (self.new.version ≡ self.old.version) }
+        ensures same { KeepsTypes self.old self.new }
 
         // what grows
         ensures grow { Grow self.old.records self.new.records }
@@ -50,9 +50,9 @@ impl HeldWords {
         answer
     }
 
-    /// Reads the records of all words of a row that are not read yet. Where each record that was read
-    /// before is that of the disk's bytes, the words that are lent then agree with those of the archive
-    /// at the row's numbers.
+    /// Reads the records of all words of a row that are not read yet. Where each record that was
+    /// read before is that of the disk's bytes, the words that are lent then agree with those of
+    /// the archive at the row's numbers.
     // Seldom called where `has_row` is asked first, so it is kept out of its callers' loops.
     #[inline(never)]
     pub fn hold_row<D: Disk>(&mut self, disk: &mut D, row: RowRef<'_>) -> Result<(), HoldRefusal>
@@ -60,7 +60,7 @@ impl HeldWords {
         ensures rests { Rests (D.state disk.old) (D.state disk.new) }
         ensures reads { ReadsWords (places_of self.old.records)
             (D.state disk.old) (D.state disk.new) }
-        ensures same { (self.new.types ≡ self.old.types) × (self.new.version ≡ self.old.version) }
+        ensures same { KeepsTypes self.old self.new }
 
         // what grows
         ensures grow { Grow self.old.records self.new.records }

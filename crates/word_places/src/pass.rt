@@ -32,8 +32,8 @@ fn add_number(
     Ok(())
 }
 
-// Passes a text and what stands before it, where the needle is first found at a place of these and of
-// what is behind, and finds it first there. A text that ends before that place has it not.
+// Passes a text and what stands before it, where the needle is first found at a place of these and
+// of what is behind, and finds it first there. A text that ends before that place has it not.
 fn pass_text(
     text: &[u8],
     after: &[u8],
@@ -56,9 +56,9 @@ fn pass_text(
     Ok(finder.find(after))
 }
 
-/// Adds the numbers of those texts that have the needle, in order, where so many texts stand one behind
-/// the other in the bytes, each with its length before it, and the first has this number. Tells false
-/// only where they do not stand there so.
+/// Adds the numbers of those texts that have the needle, in order, where so many texts stand one
+/// behind the other in the bytes, each with its length before it, and the first has this number.
+/// Tells false only where they do not stand there so.
 pub fn add_holders(
     bytes: &[u8],
     first: u32,
@@ -89,8 +89,8 @@ pub fn add_holders(
     Ok(true)
 }
 
-/// The number of the word that is the needle, by the numbers of a pass for whole words; `None` exactly
-/// where no word is.
+/// The number of the word that is the needle, by the numbers of a pass for whole words; `None`
+/// exactly where no word is.
 pub fn word_found(numbers: &[u32]) -> Option<u32>
     ensures { (needle : List ℕ) (words : List (List ℕ))
         → Holders Whole needle 0 words numbers.now

@@ -61,6 +61,14 @@ pub(crate) fn load<D: Disk>(
     fill(disk, place, front)
 }
 
+/// The first bytes of a buffer.
+pub(crate) fn front_of(buffer: &[u8], size: usize) -> &[u8]
+    requires { size ≤ length buffer.now }
+    ensures { result.now ≡ take size buffer.now }
+{
+    &buffer[..size]
+}
+
 /// Reads the words of a record.
 pub(crate) fn read_record<D: Disk>(
     alloc: Global,

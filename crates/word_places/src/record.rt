@@ -13,8 +13,8 @@ use std::marker::Model;
 /// How many bytes the length of a text takes.
 const LEN_SIZE: usize = 4;
 
-/// The words of one record: its payload as it was read, and where the length of each word stands in it.
-/// Contracts see the list of the words.
+/// The words of one record: its payload as it was read, and where the length of each word stands in
+/// it. Contracts see the list of the words.
 #[derive(Debug, Drop)]
 pub struct RecordWords {
     bytes: Vec<u8>,
@@ -147,7 +147,8 @@ fn starts_in(alloc: Global, place: WordsPlace, bytes: &[u8]) -> Result<Option<Ve
     walked(alloc, place.count, front.rest, bytes)
 }
 
-// Where the length of each of so many texts stands in a payload, where its rest is those and no more.
+// Where the length of each of so many texts stands in a payload, where its rest is those and no
+// more.
 fn walked(
     alloc: Global,
     count: u32,

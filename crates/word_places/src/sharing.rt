@@ -1,7 +1,7 @@
 //! Words that several shares have: each share reads on by itself, and is taken in again.
 ghost use Rattle.std.specs.Prelude.{◌≡◌, ◌≤◌, ◌<◌, ℕ, List, IfOk, MatchOption, Option, Some, length, set, slice_get};
 ghost use Rattle.plain_list.specs.Texts.{IsNew};
-ghost use Rattle.word_places.specs.Held.{AreNumbered, Grow, IsHeld, RightTold, places_of, unread};
+ghost use Rattle.word_places.specs.Held.{AreNumbered, Grow, IsHeld, KeepsTypes, RightTold, places_of, unread};
 ghost use Rattle.word_places.specs.Shared.{taken_each, with_words};
 ghost use Rattle.word_places.specs.declared.held.HeldRecord.{HeldRecord};
 
@@ -81,8 +81,8 @@ impl HeldRecord {
 }
 
 impl HeldWords {
-    /// A share: it begins with all records that were read so far, and reads on by itself. It takes room
-    /// for the list of its records; their texts and the log types are shared.
+    /// A share: it begins with all records that were read so far, and reads on by itself. It takes
+    /// room for the list of its records; their texts and the log types are shared.
     pub fn share(&self) -> Result<HeldWords, AllocError>
         ensures { IfOk result (λ share. share ≡ self.now) }
     {
@@ -96,13 +96,13 @@ impl HeldWords {
         })
     }
 
-    /// Takes a share in again: each record that it has read and that is not held here, is held from now
-    /// on. So what serves a reader goes on to do so, where both did.
+    /// Takes a share in again: each record that it has read and that is not held here, is held from
+    /// now on. So what serves a reader goes on to do so, where both did.
     pub fn take_in(&mut self, other: HeldWords)
         requires same { places_of other.records ≡ places_of self.old.records }
 
         // what stays
-        ensures same { (self.new.types ≡ self.old.types) × (self.new.version ≡ self.old.version) }
+        ensures same { KeepsTypes self.old self.new }
         ensures places { places_of self.new.records ≡ places_of self.old.records }
         ensures numbered { AreNumbered 0 self.new.records }
         ensures grow { Grow self.old.records self.new.records }

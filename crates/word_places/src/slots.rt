@@ -16,8 +16,8 @@ use log_seams::Disk;
 use logtype_text::Kind;
 use std::alloc::Global;
 
-/// The kind of the slot that a byte of a log type's text is, if it is one, and whether it escapes the next
-/// byte; `escaped` tells that it is escaped itself.
+/// The kind of the slot that a byte of a log type's text is, if it is one, and whether it escapes
+/// the next byte; `escaped` tells that it is escaped itself.
 #[inline]
 pub(crate) fn read_kind(escaped: bool, byte: u8) -> (bool, Option<Kind>)
     ensures kinds { (text : List ℕ)

@@ -12,9 +12,9 @@ use std::alloc::{AllocError, Global};
 /// which is empty where there is none.
 #[inline]
 pub(crate) fn slots_at<'t>(slots: &'t Texts, types: &'t TypeTexts, number: u32) -> &'t [u8]
-    requires { HaveSlots types.now slots.now }
+    requires { HaveSlots types.now.texts slots.now }
     ensures { kinds_from false result.now
-        ≡ kinds_from false (slice_index_or types.now number []) }
+        ≡ kinds_from false (slice_index_or types.now.texts number []) }
 {
     if let Some(kept) = slots.text_of(number) {
         return kept;
@@ -42,10 +42,10 @@ fn push_slots(text: &[u8], slots: &mut Vec<u8>) -> Result<(), AllocError>
     Ok(())
 }
 
-/// Of each of the first log types, so many at most, the bytes that stand for its slots: what tells which
-/// numbers of a row are words, in a few bytes for each.
+/// Of each of the first log types, so many at most, the bytes that stand for its slots: what tells
+/// which numbers of a row are words, in a few bytes for each.
 pub(crate) fn slots_of(alloc: Global, types: &TypeTexts, most: u16) -> Result<Texts, AllocError>
-    ensures { IfOk result (λ slots. HaveSlots types.now slots) }
+    ensures { IfOk result (λ slots. HaveSlots types.now.texts slots) }
 {
     let mut all = Texts::new(alloc);
     let mut slots = Vec::new(alloc);
