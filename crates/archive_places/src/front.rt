@@ -1,11 +1,11 @@
 //! A segment by the fixed part of its head.
-ghost use Rattle.std.specs.Prelude.{◌≡◌, ◌≢◌, ◌+◌, ◌*◌, Bool, length, IfSome, IsNone};
-ghost use Rattle.segment_format.specs.Layout.{IsFixed, fixed_bytes, flags, head_length};
+ghost use Rattle.std.specs.Prelude.{◌≡◌, ◌≢◌, ◌+◌, ◌*◌, length, IfSome, IsNone};
+ghost use Rattle.segment_format.specs.Layout.{IsFixed, fixed_bytes, head_length};
 ghost use Rattle.archive_places.specs.Fronts.{fixed_in};
 
-use byteorder::{ByteOrder, LittleEndian};
 use disk_journal::RecordPlace;
 use plain_list::ListOf;
+use segment_format::read_fixed;
 
 /// How many bytes the fixed part of a head has.
 pub(crate) const FIXED_LEN: u64 = 45;
@@ -62,17 +62,6 @@ impl SegmentFront {
     }
 }
 
-// The three flags of a byte, and none where another bit is set.
-fn flags_in(byte: u8) -> Option<(bool, bool, bool)>
-    ensures some { IfSome result (λ x. byte ≡ flags x.0 x.1 x.2) }
-    ensures none { IsNone result → (last ended stamped : Bool) → byte ≢ flags last ended stamped }
-{
-    if byte >= 8 {
-        return None;
-    }
-    Some((byte % 2 == 1, byte / 2 % 2 == 1, byte / 4 == 1))
-}
-
 /// The segment at a place, whose head begins with these bytes; none exactly where no head does.
 pub(crate) fn read_front(place: RecordPlace, bytes: &[u8]) -> Option<SegmentFront>
     requires { length bytes.now ≡ 45 }
@@ -82,21 +71,21 @@ pub(crate) fn read_front(place: RecordPlace, bytes: &[u8]) -> Option<SegmentFron
         (f.at ≡ place.at) × (f.payload ≡ place.payload) × (f.length ≡ place.length)) }
     ensures none { IsNone result → (f : _) → IsFixed f → bytes.now ≢ fixed_bytes f }
 {
-    let (last, ended, stamped) = flags_in(bytes[16])?;
+    let fixed = read_fixed(bytes)?;
     Some(SegmentFront {
         at: place.at,
         payload: place.payload,
         length: place.length,
-        file: LittleEndian::read_u32(bytes),
-        first: LittleEndian::read_u64(&bytes[4..]),
-        rows: LittleEndian::read_u32(&bytes[12..]),
-        last,
-        ended,
-        stamped,
-        least: LittleEndian::read_i64(&bytes[17..]),
-        greatest: LittleEndian::read_i64(&bytes[25..]),
-        types: LittleEndian::read_u32(&bytes[33..]),
-        words: LittleEndian::read_u32(&bytes[37..]),
-        variables: LittleEndian::read_u32(&bytes[41..]),
+        file: fixed.file,
+        first: fixed.first,
+        rows: fixed.rows,
+        last: fixed.last,
+        ended: fixed.ended,
+        stamped: fixed.stamped,
+        least: fixed.least,
+        greatest: fixed.greatest,
+        types: fixed.types,
+        words: fixed.words,
+        variables: fixed.variables,
     })
 }

@@ -10,11 +10,10 @@ ghost use Rattle.archive_places.specs.StepsHeads.{HasFlags, HasNumbers, placed_b
 ghost use Rattle.archive_places.specs.TypeHeads.{types_bytes, without_words};
 
 use crate::front::{FIXED_LEN, SegmentFront};
-use crate::numbers::list_in;
 use archive_open::SegmentPlace;
 use log_seams::Disk;
 use plain_list::NumberList;
-use segment_format::{Head, read_head};
+use segment_format::{Head, list_in, read_head};
 use segment_pages::PageRefusal;
 use std::alloc::Global;
 

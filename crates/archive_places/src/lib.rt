@@ -9,7 +9,6 @@ mod front;
 mod heads;
 mod keeping;
 mod laws;
-mod numbers;
 mod open;
 mod opening;
 mod places;
