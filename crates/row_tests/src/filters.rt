@@ -4,8 +4,9 @@ use crate::texts::text_of;
 use column_store::RowRef;
 use plain_list::NumberList;
 use query_plan::Plan;
+use row_codec::Names;
 use std::alloc::{AllocError, Global};
-use subquery_filter::{Filter, Verdict};
+use subquery_filter::{AskedTypes, Asking, Filter, Verdict};
 use wild_match::read_pattern;
 
 /// The plan of a pattern.
@@ -49,6 +50,28 @@ pub(crate) fn marked_again(
         return Ok(None);
     }
     Ok(Some(marked.ask(alloc, plan, books)?))
+}
+
+/// What a plan's filter, whose words are not marked, is told of the log types of the books, one
+/// behind the other. None where it does not reject all rows of one that is not left.
+pub(crate) fn asked_types(
+    alloc: Global,
+    books: &Books,
+    plan: &Plan,
+) -> Result<Option<AskedTypes>, AllocError> {
+    let mut asking = Asking::begin(alloc, plan, Filter::begin(alloc, plan)?)?;
+    let mut out = Vec::new(alloc);
+    for number in 0..u32::MAX {
+        let Some(text) = books.type_text(number) else {
+            break;
+        };
+        if !asking.add(text)? {
+            out.push(number)?;
+        }
+    }
+    let asked = asking.finish()?;
+    let rejected = asked.filter.rejects_all(out.as_slice());
+    Ok(if rejected { Some(asked) } else { None })
 }
 
 /// How many texts are looked for in words.

@@ -1,6 +1,6 @@
 //! What is asked of segments.
 use crate::books::Books;
-use crate::filters::name_of;
+use crate::filters::{asked_types, name_of};
 use crate::texts::{answer_of, bound_of, list_of, moment_of, row_of, small_of};
 use column_store::Range;
 use query_plan::Plan;
@@ -36,9 +36,15 @@ fn head_of(
     })
 }
 
-/// Whether a segment is barren, and as barren by the number of the needed word that was found
-/// before, where the plan has one needed word. `apart` where these two differ.
-fn barren_told(head: &Head, plan: &Plan, books: &Books) -> &'static str {
+/// Whether a segment is barren, and as barren by what its log types were told and by the number of
+/// the needed word that was found before, where the plan has one needed word. `apart` where these
+/// two differ.
+fn barren_told(
+    alloc: Global,
+    head: &Head,
+    plan: &Plan,
+    books: &Books,
+) -> Result<&'static str, AllocError> {
     let range = Range {
         from: None,
         to: None,
@@ -46,12 +52,16 @@ fn barren_told(head: &Head, plan: &Plan, books: &Books) -> &'static str {
     let told = barren(head, plan, &range, books);
     let needed = plan.needed().as_slice();
     if needed.len() == 1 {
+        let Some(asked) = asked_types(alloc, books, plan)? else {
+            return Ok("apart");
+        };
+        let constants = asked.constants.as_slice();
         let number = books.word_number(needed[0].as_slice());
-        if barren_by(head, plan, &range, books, &[number]) != told {
-            return "apart";
+        if barren_by(head, plan, &range, constants, &[number]) != told {
+            return Ok("apart");
         }
     }
-    answer_of(told)
+    Ok(answer_of(told))
 }
 
 /// Whether a segment of so many rows is barren as told.
@@ -68,7 +78,7 @@ pub(crate) fn is_barren(
         greatest: 40,
         ..head_of(alloc, small_of(rows), None, types, words)?
     };
-    Ok(barren_told(&head, plan, books) == want)
+    Ok(barren_told(alloc, &head, plan, books)? == want)
 }
 
 /// Whether a segment is barren in a range, and left out for it.

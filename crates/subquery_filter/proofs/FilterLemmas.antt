@@ -25,15 +25,16 @@ use Rattle.query_plan.specs.Pieces.{flat, wide_pieces}
 use Rattle.subquery_filter.specs.declared.run.Run.{Run}
 use Rattle.subquery_filter.specs.declared.filter.Filter.{Filter}
 use Rattle.subquery_filter.specs.declared.marks.WordMarks.{WordMarks}
-use Rattle.subquery_filter.specs.declared.slots.KindBits.{KindBits}
+use Rattle.subquery_filter.specs.declared.slots.Question.{Question}
 use Rattle.subquery_filter.specs.declared.slots.Slot.{Slot}
 use Rattle.subquery_filter.specs.declared.slots.Sums.{Sums}
 use Rattle.subquery_filter.specs.declared.slots.TypeTest.{TypeTest}
 use Rattle.subquery_filter.specs.declared.token.Token.{Token}
 use Rattle.subquery_filter.specs.declared.verdicts.Verdict.{Verdict}
 use Rattle.subquery_filter.specs.declared.verdicts.Verdict.TheVariants.{Rejected, Certain, Tried}
-use Rattle.subquery_filter.specs.Filter.{AreKindBits, AreSlots, AreSmall, AreSums, AreTests, AsksTypes, Covers, Gives, Has, HasNoMatch, IsAsked, IsFilter, IsListed, IsRight, IsRowVerdict, IsSlot, IsTest, LacksAll, LacksRuns, LacksText, RunMarks, StampMarks, MarksOpen, MarksVariable, marks_at, others_of, sum_at}
-use Rattle.subquery_filter.specs.StepsFilter.{AreTokens, HasAll, HasEach, IsShut, Lacks, RunsBring, StampsBring, Stays}
+use Rattle.subquery_filter.specs.Filter.{AreSlots, AreSmall, AreSums, AreTests, AsksTypes, Covers, Gives, Has, HasNoMatch, IsAsked, IsFilter, IsListed, IsRight, IsRowVerdict, IsSlot, IsTest, LacksAll, LacksRuns, LacksText, RunMarks, StampMarks, MarksOpen, MarksVariable, marks_at, others_of, sum_at}
+use Rattle.subquery_filter.specs.Asking.{IsQuestion}
+use Rattle.subquery_filter.specs.StepsFilter.{AreTokens, HasEach, IsShut, Lacks, RunsBring, StampsBring, Stays}
 use Rattle.subquery_filter.specs.StepsLetters.{kinds_in}
 use Rattle.subquery_filter.specs.Tokens.{RowsBring, RowsBringChunks, StandsInType}
 use Rattle.subquery_filter.specs.Verdicts.{CertainAlwaysMatches, IsCertain, IsRejected, RejectedNeverMatches}
@@ -215,11 +216,11 @@ unlisted_is ps tokens others slots text test tried unlisted gives covers = recor
 }
 
 -- what a test is told of by its slots, for one list of tokens
-pub test_told : {E : Type 0} (ps : List Piece) (tokens : List Token) (kinds : KindBits) (others : ℕ) (slots : List Slot) (text : List ℕ) (known all : ℕ) (r : Result TypeTest E) → Gives tokens text known
-    → IfOk r (λ test. (looked : List Token) → Gives looked text known → AreKindBits looked kinds → IsTest ps looked others slots text test)
-    → IfOk r (λ test. HasAll tokens all → AreKindBits tokens kinds → IsTest ps tokens others slots text test)
-test_told ps tokens kinds others slots text known all (Ok test) gives told = λ has are. told tokens gives are
-test_told ps tokens kinds others slots text known all (Err e) gives told = tt
+pub test_told : {E : Type 0} (tokens : List Token) (question : Question) (slots : List Slot) (text : List ℕ) (known : ℕ) (r : Result TypeTest E) → Gives tokens text known
+    → IfOk r (λ test. (ps : List Piece) (looked : List Token) → IsQuestion ps looked question → Gives looked text known → IsTest ps looked question.others slots text test)
+    → IfOk r (λ test. (ps : List Piece) → IsQuestion ps tokens question → IsTest ps tokens question.others slots text test)
+test_told tokens question slots text known (Ok test) gives told = λ ps is. told ps tokens is gives
+test_told tokens question slots text known (Err e) gives told = tt
 
 pub tokens_push : (ps : List Piece) (old new : List Token) (token : Token) → new ≡ old ++ token ∷ [] → IsAsked ps token → AreTokens ps old → AreTokens ps new
 tokens_push ps old new token is asked are = subst (AreTokens ps) (sym is) (All-push (IsAsked ps) old token are asked)

@@ -18,6 +18,7 @@ mod MarkLemmas
 mod PageLemmas
 mod AroundLemmas
 mod AloneLemmas
+mod AskingLemmas
 mod ClosedLemmas
 mod BitLemmas
 pub mod HeadLemmas

@@ -18,11 +18,11 @@ use Rattle.subquery_filter.specs.declared.token.Token.{Token}
 use Rattle.subquery_filter.specs.declared.verdicts.Verdict.{Verdict}
 use Rattle.query_plan.specs.declared.pieces.Piece.{Piece}
 use Rattle.subquery_filter.specs.declared.filter.Filter.{Filter}
-use Rattle.subquery_filter.specs.Filter.{AreMarks, AreTexts, AreTold, AsksTypes, Has, IsFilter, IsTold, LacksAll}
+use Rattle.subquery_filter.specs.Filter.{AreMarks, AreTexts, AreToldBy, Has, IsFilter, LacksAll}
 use Rattle.subquery_filter.specs.Found.{HaveAll, HaveNumbers}
 use Rattle.subquery_filter.specs.StepsFilter.{HasAt, HasLists, KeepsBits}
 use Rattle.subquery_filter.proofs.BitLemmas.{has_left, has_none, has_right, has_self, has_through}
-use Rattle.subquery_filter.proofs.FilterLemmas.{before_step, push_cases, push_got, push_last}
+use Rattle.subquery_filter.proofs.FilterLemmas.{before_step, push_got, push_last}
 use Rattle.subquery_filter.proofs.NumberLemmas.{stands_in}
 
 -- ---- a token stands in the texts that its items match
@@ -199,26 +199,8 @@ marked_ok ps types words f (Err e) told is = tt
 pub none_brought : (brought marks : ℕ) → marks ≡ 0 → Has brought marks
 none_brought brought marks none = subst (Has brought) (sym none) (has_none brought)
 
-pub told_none : (f : Filter) (verdicts : List Verdict) → verdicts ≡ [] → AreTold f verdicts
-told_none f verdicts none t v at = absurd (let e : None ≡ Some v = ap (λ (l : List Verdict). slice_get l t) (sym none) ∙ at in cc)
-
-pub told_step : (f : Filter) (i : ℕ) (old new : List Verdict) (test : TypeTest) (v : Verdict) → length old ≡ i → new ≡ old ++ v ∷ [] → slice_get f.tests.items i ≡ Some test → IsTold f i test v → AreTold f old → AreTold f new
-told_step f i old new test v size is there here before t other at =
-    elim (push_cases old v t other (subst (λ (l : List Verdict). slice_get l t ≡ Some other) is at)) [
-      | inl earlier ↦ before t other earlier
-      | inr (e, same) ↦ (test, subst (λ n. slice_get f.tests.items n ≡ Some test) (sym (e ∙ size)) there, subst (λ n. IsTold f n test other) (sym (e ∙ size)) (subst (IsTold f i test) same here))
-    ]
-
--- what is told of one filter is told of the next
-pub asks_ok : {E : Type 0} (ps : List Piece) (types : List (List ℕ)) (old f : Filter) (r : Result Filter E) → IfOk r (λ g. (qs : List Piece) (kinds : List (List ℕ)) → AsksTypes qs kinds f → AsksTypes qs kinds g)
-    → (AsksTypes ps types old → AsksTypes ps types f) → IfOk r (λ g. AsksTypes ps types old → AsksTypes ps types g)
-asks_ok ps types old f (Ok g) told goes = λ asks. told ps types (goes asks)
-asks_ok ps types old f (Err e) told goes = tt
-
-pub filters_ok : {E : Type 0} (ps : List Piece) (types : List (List ℕ)) (old f : Filter) (r : Result Filter E) → IfOk r (λ g. (qs : List Piece) (kinds texts : List (List ℕ)) → IsFilter qs kinds texts f → IsFilter qs kinds texts g)
-    → ((words : List (List ℕ)) → IsFilter ps types words old → IsFilter ps types words f) → IfOk r (λ g. (words : List (List ℕ)) → IsFilter ps types words old → IsFilter ps types words g)
-filters_ok ps types old f (Ok g) told goes = λ words is. told ps types words (goes words is)
-filters_ok ps types old f (Err e) told goes = tt
+pub told_none : (f : Filter) (tests : List TypeTest) (alone : List ℕ) (verdicts : List Verdict) → verdicts ≡ [] → AreToldBy f tests alone verdicts
+told_none f tests alone verdicts none t v at = absurd (let e : None ≡ Some v = ap (λ (l : List Verdict). slice_get l t) (sym none) ∙ at in cc)
 
 lacks_again : (f g : Filter) (test : TypeTest) (brought : ℕ) → f.wanted ≡ g.wanted → f.stamped ≡ g.stamped → LacksAll f test f.stamped brought → LacksAll g test g.stamped brought
 lacks_again f g test brought wanted stamped h = record {
@@ -230,16 +212,16 @@ lacks_again f g test brought wanted stamped h = record {
   lacks = λ has. h.lacks (subst (Has h.bits) (sym wanted) has);
 }
 
--- what is told of the log types by one filter is told by another with the same tests and slots
-pub told_again : (f g : Filter) (verdicts : List Verdict) → f.wanted ≡ g.wanted → f.stamped ≡ g.stamped → f.brought ≡ g.brought → f.tests.items ≡ g.tests.items → f.alone.items ≡ g.alone.items → f.run_stamped ≡ g.run_stamped
-    → AreTold f verdicts → AreTold g verdicts
-told_again f g verdicts wanted stamped brought tests alone runs told t v at =
+-- what is told of the log types by one filter is told by another
+pub told_again : (f g : Filter) (tests : List TypeTest) (alone : List ℕ) (verdicts : List Verdict) → f.wanted ≡ g.wanted → f.stamped ≡ g.stamped → f.brought ≡ g.brought → f.run_stamped ≡ g.run_stamped
+    → AreToldBy f tests alone verdicts → AreToldBy g tests alone verdicts
+told_again f g tests alone verdicts wanted stamped brought runs told t v at =
     let (test, there, how) = told t v at in (
       test,
-      subst (λ (l : List TypeTest). slice_get l t ≡ Some test) tests there,
+      there,
       elim how [
         | inl same ↦ inl same
         | inr (never, inl (tried, h)) ↦ inr (never, inl (tried, subst (LacksAll g test g.stamped) brought (lacks_again f g test f.brought wanted stamped h)))
-        | inr (never, inr lacks) ↦ inr (never, inr (λ has. lacks (subst (λ (l : List ℕ). Has f.run_stamped (slice_index_or l t 0)) (sym alone) (subst (λ (n : ℕ). Has n (slice_index_or g.alone.items t 0)) (sym runs) has))))
+        | inr (never, inr lacks) ↦ inr (never, inr (λ has. lacks (subst (λ (n : ℕ). Has n (slice_index_or alone t 0)) (sym runs) has)))
       ],
     )

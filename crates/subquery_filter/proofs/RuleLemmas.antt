@@ -18,6 +18,7 @@ use Rattle.column_store.specs.declared.range.Range.{Range}
 use Rattle.segment_format.specs.Layout.{IsHead}
 use Rattle.segment_format.specs.declared.head.Head.{Head}
 use Rattle.barren_segments.specs.Barren.{HasConstants, HoldsConstants, IsBounded, IsMissing, IsNeeded, IsOutside, LacksTypes, LacksWord, LeavesOut}
+use Rattle.subquery_filter.specs.Asking.{AreConstants}
 use Rattle.subquery_filter.specs.Found.{AreNumbers, IsNumber}
 use Rattle.barren_segments.specs.Runs.{HoldsRun}
 use Rattle.plain_list.specs.Texts.{AreDistinct, IsNew}
@@ -55,7 +56,7 @@ each_all P words flags v n all before k t at flag = let within = slice_get_withi
 pub read_at : (words : List (List ℕ)) (n : ℕ) (w x : List ℕ) → n < length words → w ≡ x → x ≡ get_or words n x → slice_get words n ≡ Some w
 read_at words n w x within is read = slice_get-get_or words n x within ∙ ap (λ t. Some t) (sym read ∙ sym is)
 
-flag_at : (flags : List Bool) (n : ℕ) (v : Bool) → n < length flags → get_or flags n false ≡ v → slice_get flags n ≡ Some v
+pub flag_at : (flags : List Bool) (n : ℕ) (v : Bool) → n < length flags → get_or flags n false ≡ v → slice_get flags n ≡ Some v
 flag_at flags n v within is = slice_get-get_or flags n false within ∙ ap (λ t. Some t) is
 
 needed_at : (ps : List Piece) (words : List (List ℕ)) (flags : List Bool) (n : ℕ) (w : List ℕ) (v : Bool) → words ≡ needed_of Free ps → flags ≡ needed_variables_of Free ps
@@ -120,6 +121,15 @@ types_lack ps types listed n all before = (
 pub types_have : (ps : List Piece) (types : List (List ℕ)) (listed : List ℕ) (n : ℕ) → n < length listed → HasConstants ps types (get_or listed n 0) → IsTrue false ↔ LacksTypes ps types listed
 types_have ps types listed n within has =
     (λ f. absurd (let t : false ≡ true = f in cc), λ lacks. absurd (lacks (get_or listed n 0) (Contains-get_or listed n 0 within) has))
+
+-- so it is where it was told of each log type
+pub told_lack : (ps : List Piece) (types : List (List ℕ)) (constants : List Bool) (listed : List ℕ) (n : ℕ) → AreConstants ps types constants → length listed ≤ n → NoneBefore (λ t. slice_get constants t ≡ Some true) listed n
+    → IsTrue true ↔ LacksTypes ps types listed
+told_lack ps types constants listed n are all before = types_lack ps types listed n all (λ k lt has. before k lt ((are (get_or listed k 0)).1 has))
+
+pub told_have : (ps : List Piece) (types : List (List ℕ)) (constants : List Bool) (listed : List ℕ) (n : ℕ) → AreConstants ps types constants → n < length listed → slice_get constants (get_or listed n 0) ≡ Some true
+    → IsTrue false ↔ LacksTypes ps types listed
+told_have ps types constants listed n are within has = types_have ps types listed n within ((are (get_or listed n 0)).0 has)
 
 -- a log type without a text has nothing
 pub no_type : (ps : List Piece) (types : List (List ℕ)) (n : ℕ) → length types ≤ n → ¬ HasConstants ps types n

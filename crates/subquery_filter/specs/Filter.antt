@@ -227,17 +227,22 @@ pub record LacksAll (f : Filter) (test : TypeTest) (stamped brought : ℕ) : Typ
 abbrev pub LacksRuns : Filter → ℕ → ℕ → Type 0
 LacksRuns f bits t = ¬ Has bits (slice_index_or f.alone.items t 0)
 
--- the verdict is that of the log type's text, or no row of the log type brings all that is wanted, or all runs
-abbrev pub IsTold : Filter → ℕ → TypeTest → Verdict → Type 0
-IsTold f t test verdict =
+-- the verdict is that of the log type's text, or no row of a log type that leaves these runs to stamps alone brings all
+-- that is wanted, or all runs
+abbrev pub IsToldBy : Filter → TypeTest → ℕ → Verdict → Type 0
+IsToldBy f test alone verdict =
     (verdict ≡ test.verdict)
-    ⊎ ((verdict ≡ Rejected) × (((test.verdict ≡ Tried) × LacksAll f test f.stamped f.brought) ⊎ LacksRuns f f.run_stamped t))
+    ⊎ ((verdict ≡ Rejected) × (((test.verdict ≡ Tried) × LacksAll f test f.stamped f.brought) ⊎ ¬ Has f.run_stamped alone))
 
 -- so it is of each log type, by their numbers
-abbrev pub AreTold : Filter → List Verdict → Type 0
-AreTold f verdicts =
+abbrev pub AreToldBy : Filter → List TypeTest → List ℕ → List Verdict → Type 0
+AreToldBy f tests alone verdicts =
     (t : ℕ) (verdict : Verdict) → slice_get verdicts t ≡ Some verdict
-    → (test : TypeTest) × (slice_get f.tests.items t ≡ Some test) × IsTold f t test verdict
+    → (test : TypeTest) × (slice_get tests t ≡ Some test) × IsToldBy f test (slice_index_or alone t 0) verdict
+
+-- and by what a filter knows of them
+abbrev pub AreTold : Filter → List Verdict → Type 0
+AreTold f verdicts = AreToldBy f f.tests.items f.alone.items verdicts
 
 -- ---- what a row needs of its variables
 

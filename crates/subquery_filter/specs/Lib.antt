@@ -7,5 +7,6 @@ pub mod Filter
 pub mod Page
 pub mod Found
 pub mod ByTypes
+pub mod Asking
 pub mod StepsFilter
 pub mod StepsKnown

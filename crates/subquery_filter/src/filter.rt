@@ -1,5 +1,5 @@
 //! What a search knows of an archive's words and log types, so that rows are tested by bits alone.
-ghost use Rattle.std.specs.Prelude.{◌≡◌, ◌⊎◌, ◌<◌, ◌≤◌, ℕ, List, IfOk, IsFalse, IsTrue, Some, length, slice_get, slice_index_or};
+ghost use Rattle.std.specs.Prelude.{◌≡◌, ◌≢◌, ◌⊎◌, ◌<◌, ◌≤◌, ℕ, List, IfOk, IsFalse, IsTrue, Some, slice_get, slice_index_or};
 ghost use Rattle.std.specs.List.{Contains};
 ghost use Rattle.column_store.specs.Row.{row_of};
 ghost use Rattle.logtype_text.specs.declared.symbols.Kind.TheVariants.{Word};
@@ -10,39 +10,38 @@ ghost use Rattle.query_plan.specs.Pieces.{wide_pieces};
 ghost use Rattle.query_plan.specs.declared.pieces.Piece.{Piece};
 ghost use Rattle.subquery_filter.specs.declared.filter.Filter.{Filter};
 ghost use Rattle.subquery_filter.specs.declared.slots.Slot.{Slot};
-ghost use Rattle.subquery_filter.specs.Filter.{AreCoded, AreMarks, AreTold, AsksTypes, Has, HasNoMatch, IsFilter, IsRowVerdict, IsTold, LacksAll, MarksVariable, StampMarks, TellsSmall, others_of};
-ghost use Rattle.subquery_filter.specs.declared.verdicts.Verdict.TheVariants.{Certain};
+ghost use Rattle.subquery_filter.specs.Filter.{AreCoded, AreMarks, AsksTypes, Has, HasNoMatch, IsFilter, IsRowVerdict, IsToldBy, LacksAll, MarksVariable, StampMarks, TellsSmall, others_of};
+ghost use Rattle.subquery_filter.specs.Asking.{HasRejected};
+ghost use Rattle.subquery_filter.specs.declared.verdicts.Verdict.TheVariants.{Certain, Rejected};
 ghost use Rattle.subquery_filter.specs.Found.{HaveAll};
 ghost use Rattle.subquery_filter.specs.Page.{AreStampBits, IsPage};
 ghost use Rattle.subquery_filter.specs.StepsFilter.{Brings, BringsWords, GivesAny, HasEach, IsShut, Lacks, LacksStamp, LacksTokens, RunsBring, SlotGives, SlotIs, StampsBring};
 
-use crate::alone::{run_bits, runs_of};
+use crate::alone::runs_of;
+use crate::asking::{Asking, add_all};
 use crate::bits::{any_of, has, mark_at};
 use crate::laws::{rows_bring_chunks, rows_bring_runs, verdicts_hold};
 use crate::marks::WordMarks;
-use crate::needing::{Need, firm_bits, open_bits};
+use crate::needing::{Need, open_bits};
 use crate::needles::{lists_with, texts_of};
 use crate::numbers::{decimal_bits, kind_bits, whole_bits};
-use crate::rare::longest_rare;
 use crate::run::Run;
 use crate::run_stamps::{mark_runs, runs_within, stamp_runs};
 use crate::shared::{PageTests, StampBits};
-use crate::slots::{Question, Slot, TypeTest, test_types};
-use crate::small::{SmallNumbers, has_bound, small_needed};
+use crate::slots::{Slot, TypeTest};
+use crate::small::SmallNumbers;
 use crate::stamps::{bits_within, mark_stamps, stamp_bits};
 use crate::token::Token;
-use crate::tokens::{all_bits, stored_text, tokens_of};
+use crate::tokens::{all_bits, tokens_of};
 use crate::verdicts::Verdict;
 use column_store::RowRef;
 use logtype_text::Kind;
-use memchr::memmem::Finder;
 use plain_list::{NumberList, Text};
 use query_plan::Plan;
 use row_codec::Names;
 use segment_format::Head;
 use std::alloc::{AllocError, Global};
 use var_codec::one_word;
-use wild_match::Matcher;
 
 /// What is known of the log types and the words of an archive, for one search.
 ///
@@ -57,33 +56,33 @@ pub struct Filter {
     pub(crate) wanted: u8,
     pub(crate) numeric: u8,
     /// What is told of all rows of a log type, by their numbers.
-    verdicts: Vec<Verdict>,
+    pub(crate) verdicts: Vec<Verdict>,
     /// What a row of a log type needs, by their numbers.
     pub(crate) needs: Vec<Need>,
     /// What is known of the log types, by their numbers, and their slots.
     pub(crate) tests: Vec<TypeTest>,
-    slots: Vec<Slot>,
+    pub(crate) slots: Vec<Slot>,
     /// The texts of the tokens, which are looked for in words.
-    needles: Vec<Text>,
+    pub(crate) needles: Vec<Text>,
     /// The bits of the words.
     pub(crate) marks: WordMarks,
     /// The bits that words may bring.
     pub(crate) brought: u8,
     /// The bits that numbers may bring.
-    numbers: u8,
+    pub(crate) numbers: u8,
     /// What is told of numbers by their words.
     pub(crate) small: SmallNumbers,
     /// The bits that stamps may bring, by the numbers of their patterns, and those of all patterns.
-    stamps: Vec<u8>,
+    pub(crate) stamps: Vec<u8>,
     pub(crate) stamped: u8,
     /// The runs of the pattern, each with a bit too, and those that each log type leaves to stamps,
     /// by their numbers.
-    runs: Vec<Run>,
-    alone: Vec<u8>,
+    pub(crate) runs: Vec<Run>,
+    pub(crate) alone: Vec<u8>,
     /// The bits of the runs that stamps may have, by the numbers of their patterns, and those of
     /// all patterns.
-    run_stamps: Vec<u8>,
-    run_stamped: u8,
+    pub(crate) run_stamps: Vec<u8>,
+    pub(crate) run_stamped: u8,
 }
 
 /// The bits that listed words have.
@@ -95,14 +94,6 @@ fn bits_of_list(marks: &WordMarks, numbers: &[u32]) -> u8
         bits |= marks.at(u64::from(*number));
     }
     bits
-}
-
-/// The longest run of literal bytes of the pattern that a search is planned over, as log types
-/// store constant bytes.
-fn longest_run(alloc: Global, plan: &Plan) -> Result<Text, AllocError> {
-    let matcher = Matcher::new(alloc, plan.wide())?;
-    let run = stored_text(alloc, matcher.needle())?;
-    Ok(run)
 }
 
 /// The word at a place.
@@ -161,54 +152,19 @@ impl Filter {
         mark_at(self.alone.as_slice(), number)
     }
 
-    /// The verdict on all rows of a log type. It is given up where its rows cannot bring all runs,
-    /// whatever their stamps are, or all tokens, whatever their words are.
-    fn type_verdict(&self, number: usize, test: &TypeTest) -> Verdict
-        ensures { IsTold self.now number test.now result }
+    /// The verdict on all rows of a log type that leaves these runs to stamps. It is given up where
+    /// its rows cannot bring all runs, whatever their stamps are, or all tokens, whatever their
+    /// words are.
+    pub(crate) fn verdict_by(&self, test: &TypeTest, alone: u8) -> Verdict
+        ensures { IsToldBy self.now test.now alone result }
     {
-        if !has(self.run_stamped, self.alone_at(number as u64)) {
+        if !has(self.run_stamped, alone) {
             return Verdict::Rejected;
         }
         if test.verdict == Verdict::Tried && self.lacks_all(test, self.stamped, self.brought) {
             return Verdict::Rejected;
         }
         test.verdict
-    }
-
-    /// What is known of the log type at a place.
-    fn test_here(&self, place: usize) -> TypeTest
-        requires { place < length self.now.tests.items }
-        ensures { slice_get self.now.tests.items place ≡ Some result }
-    {
-        self.tests[place]
-    }
-
-    /// The verdicts on all log types.
-    fn type_verdicts(&self, alloc: Global) -> Result<Vec<Verdict>, AllocError>
-        ensures { IfOk result (λ verdicts. AreTold self.now verdicts.items) }
-    {
-        let mut verdicts = Vec::new(alloc);
-        for place in 0..self.tests.len() {
-            let test = self.test_here(place);
-            verdicts.push(self.type_verdict(place, &test))?;
-        }
-        Ok(verdicts)
-    }
-
-    /// This filter with the verdicts on all log types, and with what their rows need.
-    fn told(self, alloc: Global) -> Result<Filter, AllocError>
-        ensures asks { IfOk result (λ f. (ps : List Piece) (types : List (List ℕ))
-            → AsksTypes ps types self → AsksTypes ps types f) }
-        ensures marked { IfOk result (λ f. (ps : List Piece) (types : List (List ℕ))
-            (words : List (List ℕ)) → IsFilter ps types words self → IsFilter ps types words f) }
-    {
-        let verdicts = self.type_verdicts(alloc)?;
-        let needs = self.type_needs(alloc, verdicts.as_slice())?;
-        Ok(Filter {
-            verdicts,
-            needs,
-            ..self
-        })
     }
 
     /// The texts that have to be looked for in words. There are none where the pattern has no
@@ -243,7 +199,7 @@ impl Filter {
     }
 
     /// The bits that stamps, numbers and words may bring.
-    fn others(&self) -> u8
+    pub(crate) fn others(&self) -> u8
         ensures { result ≡ others_of self.now }
     {
         self.stamped | self.numbers | self.brought
@@ -260,38 +216,10 @@ impl Filter {
             → IsFilter plan.now (N.types names.now) words self
             → IsFilter plan.now (N.types names.now) words f) }
     {
-        let looked = self.tokens.as_slice();
-        let runs = self.runs.as_slice();
-        let longest = longest_run(alloc, plan)?;
-        let others = self.others();
-        let question = Question {
-            kinds: kind_bits(looked),
-            others,
-            lead: longest_rare(looked, others),
-            longest: Finder::new(longest.as_slice()),
-            tokens: all_bits(looked),
-            firm: firm_bits(looked) & others,
-            runs: run_bits(runs),
-            stamped: self.run_stamped,
-            bounded: has_bound(looked),
-        };
-        let mut slots = Vec::new(alloc);
-        let mut tests = Vec::new(alloc);
-        let mut alone = Vec::new(alloc);
-        test_types(
-            plan, looked, runs, &question, names, &mut slots, &mut tests, &mut alone,
-        )?;
-        let small = small_needed(alloc, slots.as_slice(), looked)?;
-        let filter = Filter {
-            verdicts: Vec::new(alloc),
-            needs: Vec::new(alloc),
-            tests,
-            slots,
-            small,
-            alone,
-            ..self
-        };
-        filter.told(alloc)
+        let mut asking = Asking::begin(alloc, plan, self)?;
+        add_all(&mut asking, names)?;
+        let asked = asking.finish()?;
+        Ok(asked.filter)
     }
 
     /// Asks all words and all log types of an archive, where the words are in memory.
@@ -629,6 +557,7 @@ impl Filter {
         ensures certain { result ≡ Certain → (p : List Item) (types : List (List ℕ))
             → AsksTypes (wide_pieces p) types self.now → (words : List (List ℕ))
             → IsRowVerdict (wide_pieces p) types words (row_of row.entry) Certain }
+        ensures typed { result ≢ Rejected → ¬ HasRejected self.now row.entry.log_type }
     {
         self.verdict_in(row, &mut PageTests::new())
     }
@@ -660,6 +589,7 @@ impl Filter {
         ensures certain { result ≡ Certain → (p : List Item) (types : List (List ℕ))
             → AsksTypes (wide_pieces p) types self.now → (words : List (List ℕ))
             → IsRowVerdict (wide_pieces p) types words (row_of row.entry) Certain }
+        ensures typed { result ≢ Rejected → ¬ HasRejected self.now row.entry.log_type }
     {
         verdicts_hold();
         rows_bring_runs();

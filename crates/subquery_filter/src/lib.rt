@@ -6,6 +6,7 @@
 
 mod accepting;
 mod alone;
+mod asking;
 mod beside;
 mod bits;
 mod by_types;
@@ -35,6 +36,7 @@ mod tokens;
 mod verdicts;
 
 pub use accepting::accepts;
+pub use asking::{AskedTypes, Asking};
 pub use filter::Filter;
 pub use known::{KnownWord, known_words};
 pub use known_names::KnownNames;

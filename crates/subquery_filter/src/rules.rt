@@ -1,10 +1,12 @@
 //! Which segments are barren.
-ghost use Rattle.std.specs.Prelude.{◌≡◌, ◌⊎◌, ◌↔◌, ◌<◌, ◌<ℤ◌, ℕ, ℤ, List, IsTrue, None, Some, false, length, slice_index_or, true};
+ghost use Rattle.std.specs.Prelude.{◌≡◌, ◌⊎◌, ◌↔◌, ◌<◌, ◌<ℤ◌, ℕ, ℤ, List, IsTrue, None, Some, false, length, slice_get, slice_index_or, true};
 ghost use Rattle.std.specs.List.Sorted.{IsStrictlyIncreasing};
 ghost use Rattle.plain_list.specs.Texts.{AreDistinct};
 ghost use Rattle.segment_format.specs.Layout.{IsHead};
 ghost use Rattle.barren_segments.specs.Barren.{HasConstants, HoldsConstants, IsBarren, IsBounded, IsMissing, LacksTypes, LacksWord, LeavesOut};
+ghost use Rattle.subquery_filter.specs.Asking.{AreConstants};
 ghost use Rattle.subquery_filter.specs.Found.{AreNumbers, IsNumber};
+ghost use Rattle.query_plan.specs.declared.pieces.Piece.{Piece};
 ghost use Rattle.query_plan.specs.Needs.{needed_variables_of};
 ghost use Rattle.query_plan.specs.Pieces.{Free, needed_of};
 ghost use Rattle.barren_segments.specs.Runs.{HoldsRun};
@@ -41,27 +43,28 @@ pub fn barren<N: Names>(head: &Head, plan: &Plan, range: &Range, names: &N) -> b
 
 /// Whether the segment is barren, as [`barren`] tells it, where the numbers of the needed words
 /// were found before: for each needed word of the plan that is a variable, at its place, its
-/// number, and none where it is no word.
+/// number, and none where it is no word. And for each log type it was told whether its constant
+/// bytes have all needed words that are no variables.
 ///
-/// Costs a binary search for each needed variable, and then a walk over the texts of the head's log
-/// types up to the first that has all.
-pub fn barren_by<N: Names>(
+/// Costs a binary search for each needed variable, and then a look at the head's log types up to
+/// the first that has all.
+pub fn barren_by(
     head: &Head,
     plan: &Plan,
     range: &Range,
-    names: &N,
+    constants: &[bool],
     found: &[Option<u32>],
 ) -> bool
     requires { length found.now ≡ length (needed_of Free plan.now) }
-    ensures { (words : List (List ℕ)) → IsHead head.now → AreDistinct words
+    ensures { (types words : List (List ℕ)) → IsHead head.now → AreDistinct words
         → AreNumbers words (needed_of Free plan.now) (needed_variables_of Free plan.now) found.now
-        → IsTrue result ↔ IsBarren plan.now range.now (N.types names.now) words head.now }
+        → AreConstants plan.now types constants.now
+        → IsTrue result ↔ IsBarren plan.now range.now types words head.now }
 {
     if is_outside(head.rows, head.stamped, head.least, head.greatest, range) {
         return true;
     }
-    lacks_found(plan, head.words.as_slice(), found)
-        || lacks_types(plan, head.types.as_slice(), names)
+    lacks_found(plan, head.words.as_slice(), found) || lacks_told(head.types.as_slice(), constants)
 }
 
 /// Whether a segment has no rows, or a bound is given that leaves out all of them. These are the
@@ -231,6 +234,29 @@ fn lacks_types<N: Names>(plan: &Plan, types: &[u32], names: &N) -> bool
 {
     for place in 0..types.len() {
         if has_constants(plan, types[place], names) {
+            return false;
+        }
+    }
+    true
+}
+
+/// Whether it was told of the log type with this number that it has them.
+fn is_told(number: u32, constants: &[bool]) -> bool
+    ensures { IsTrue result ↔ (slice_get constants.now number ≡ Some true) }
+{
+    match constants.get(number as usize) {
+        Some(has_all) => *has_all,
+        None => false,
+    }
+}
+
+/// Whether it was told of none of these log types.
+fn lacks_told(types: &[u32], constants: &[bool]) -> bool
+    ensures { (ps : List Piece) (names : List (List ℕ)) → AreConstants ps names constants.now
+        → IsTrue result ↔ LacksTypes ps names types.now }
+{
+    for place in 0..types.len() {
+        if is_told(types[place], constants) {
             return false;
         }
     }

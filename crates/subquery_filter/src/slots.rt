@@ -1,9 +1,10 @@
 //! The slots of log types that may bring tokens.
-ghost use Rattle.std.specs.Prelude.{◌≡◌, ◌≢◌, ◌<◌, ◌≤◌, ℕ, List, [], false, IfOk, IfSome, IsFalse, IsTrue, OnOk, Some, length, slice_get};
+ghost use Rattle.std.specs.Prelude.{◌≡◌, ◌≢◌, ◌<◌, ◌≤◌, ℕ, List, false, IfOk, IfSome, IsFalse, IsTrue, OnOk, Some, length, slice_get};
 ghost use Rattle.query_plan.specs.declared.pieces.Piece.{Piece};
 ghost use Rattle.subquery_filter.specs.declared.token.Token.{Token};
 ghost use Rattle.logtype_text.specs.declared.symbols.Kind.{Kind};
-ghost use Rattle.subquery_filter.specs.Filter.{AreAlone, AreKindBits, AreSlots, AreTests, Covers, Gives, Has, IsAlone, IsRight, IsSlot, IsTest, LacksText, sum_at};
+ghost use Rattle.subquery_filter.specs.Filter.{AreKindBits, AreSlots, Covers, Gives, Has, IsAlone, IsRight, IsSlot, IsTest, LacksText, sum_at};
+ghost use Rattle.subquery_filter.specs.Asking.{IsQuestion};
 ghost use Rattle.subquery_filter.specs.StepsFilter.{AreSummed, HasAll, Stays};
 ghost use Rattle.subquery_filter.specs.StepsLetters.{kinds_in};
 ghost use Rattle.subquery_filter.specs.declared.slots.Slot.{Slot};
@@ -17,9 +18,9 @@ use crate::tokens::gifts_of;
 use crate::verdicts::{Verdict, verdict_in_order};
 use logtype_text::{Kind, Symbol, first_symbol, plain_front};
 use memchr::memmem::Finder;
-use query_plan::Plan;
-use row_codec::Names;
-use std::alloc::{AllocError, Global};
+use plain_list::Text;
+use std::alloc::AllocError;
+use wild_match::Pattern;
 
 /// The bits that each kind of variable may bring.
 #[derive(Clone, Copy, Debug)]
@@ -31,7 +32,7 @@ pub(crate) struct KindBits {
 
 /// What each log type is asked.
 #[derive(Debug, Drop)]
-pub(crate) struct Question<'a> {
+pub(crate) struct Question {
     /// The bits that each kind of variable may bring.
     pub(crate) kinds: KindBits,
     /// The bits that rows may bring beside the constant bytes of their log types: by stamps, by
@@ -41,7 +42,7 @@ pub(crate) struct Question<'a> {
     pub(crate) lead: usize,
     /// The longest run of bytes of the pattern, as log types store constant bytes. A log type of
     /// which the pattern matches each message has it.
-    pub(crate) longest: Finder<'a>,
+    pub(crate) longest: Finder<'static>,
     /// The bits of all tokens.
     pub(crate) tokens: u8,
     /// The bits of the firm ones: they stand in a number only where they are all of it. Those that
@@ -53,6 +54,11 @@ pub(crate) struct Question<'a> {
     /// Whether words tell of most numbers that no token is a part of them, whatever slots they are
     /// in.
     pub(crate) bounded: bool,
+    /// The pattern, and its skeleton.
+    pub(crate) wide: Pattern,
+    pub(crate) skeleton: Pattern,
+    /// The needed words that are no variables.
+    pub(crate) constants: Vec<Text>,
 }
 
 /// A slot of a log type in which a token may stand.
@@ -77,7 +83,7 @@ pub(crate) struct Sums {
 pub(crate) const MOST_SLOTS: usize = 1 << 20;
 
 /// How many log types are taken to have most messages. Of the others less is asked.
-const COMMON_TYPES: u32 = 4096;
+const COMMON_TYPES: usize = 4096;
 
 /// A log type that few messages have is told by the words of its rows where its constant bytes lack
 /// so many firm tokens. Fewer leave too many rows.
@@ -102,7 +108,14 @@ pub(crate) struct TypeTest {
     pub(crate) end: usize,
 }
 
-impl Question<'_> {
+/// What is known of a log type, and the bits of the runs that it leaves to stamps.
+#[derive(Clone, Copy, Debug)]
+pub(crate) struct TestedType {
+    pub(crate) test: TypeTest,
+    pub(crate) alone: u8,
+}
+
+impl Question {
     /// Whether stamps alone decide of rows of a log type which leaves these runs to them: it leaves
     /// all, or some that no stamp may have.
     #[inline]
@@ -311,8 +324,8 @@ fn unlisted_test(kinds: &KindBits, known: u8, first: usize) -> TypeTest
 /// stand there, and neither its slots nor its runs are asked: a row of it is told by its words.
 fn rare_test(
     tokens: &[Token],
-    question: &Question<'_>,
-    number: u32,
+    question: &Question,
+    place: usize,
     lacks: bool,
     text: &[u8],
 ) -> Option<TypeTest>
@@ -320,7 +333,7 @@ fn rare_test(
         → AreKindBits tokens.now question.now.kinds
         → IsTest plan tokens.now question.now.others slots text.now test) }
 {
-    if lacks || number < COMMON_TYPES || !question.spares_rare() {
+    if lacks || place < COMMON_TYPES || !question.spares_rare() {
         return None;
     }
     let known = gifts_of(tokens, question.rare_tokens(), text);
@@ -341,11 +354,13 @@ fn left_to_stamps(runs: &[Run], known: bool, text: &[u8]) -> u8
 }
 
 /// The verdict of a log type's text, by the bits of the tokens that its constant bytes bring.
-fn text_verdict(plan: &Plan, question: &Question<'_>, text: &[u8], known: u8) -> Verdict
-    ensures { (tokens : List Token) → IsRight plan.now tokens question.now.others text.now result }
+fn text_verdict(question: &Question, text: &[u8], known: u8) -> Verdict
+    ensures { (ps : List Piece) (tokens : List Token) → IsQuestion ps tokens question.now
+        → IsRight ps tokens question.now.others text.now result }
 {
     if question.may_be_certain(known, text) {
-        return verdict_in_order(plan, text);
+        let wide = question.wide.as_slice();
+        return verdict_in_order(wide, question.skeleton.as_slice(), text);
     }
     Verdict::Tried
 }
@@ -353,19 +368,18 @@ fn text_verdict(plan: &Plan, question: &Question<'_>, text: &[u8], known: u8) ->
 /// What is known of a log type of whose rows its slots decide, by the bits of the tokens that its
 /// constant bytes bring. Its slots are listed behind those before, where these are not too many.
 fn test_by_slots(
-    plan: &Plan,
-    question: &Question<'_>,
+    question: &Question,
     slots: &mut Vec<Slot>,
     text: &[u8],
     known: u8,
 ) -> Result<TypeTest, AllocError>
-    ensures test { IfOk result (λ test. (tokens : List Token) → Gives tokens text.now known
-        → AreKindBits tokens question.now.kinds
-        → IsTest plan.now tokens question.now.others slots.new.items text.now test) }
+    ensures test { IfOk result (λ test. (ps : List Piece) (tokens : List Token)
+        → IsQuestion ps tokens question.now → Gives tokens text.now known
+        → IsTest ps tokens question.now.others slots.new.items text.now test) }
     ensures stays { IfOk result (λ _. Stays slots.old.items slots.new.items) }
 {
     let first = slots.len();
-    let verdict = text_verdict(plan, question, text, known);
+    let verdict = text_verdict(question, text, known);
     if verdict != Verdict::Tried {
         return Ok(closed_test(verdict, first));
     }
@@ -390,9 +404,8 @@ fn test_by_slots(
 /// Most log types of a long log lack a token, are rare, or leave all runs to stamps: their slots are
 /// not looked at.
 fn test_of(
-    plan: &Plan,
     tokens: &[Token],
-    question: &Question<'_>,
+    question: &Question,
     slots: &mut Vec<Slot>,
     text: &[u8],
     lacks: bool,
@@ -403,9 +416,9 @@ fn test_of(
     requires rare { IfSome rare (λ test. (plan : List Piece) (slots : List Slot)
         → AreKindBits tokens.now question.now.kinds
         → IsTest plan tokens.now question.now.others slots text.now test) }
-    ensures test { IfOk result (λ test. HasAll tokens.now question.now.tokens
-        → AreKindBits tokens.now question.now.kinds
-        → IsTest plan.now tokens.now question.now.others slots.new.items text.now test) }
+    ensures test { IfOk result (λ test. (ps : List Piece)
+        → IsQuestion ps tokens.now question.now
+        → IsTest ps tokens.now question.now.others slots.new.items text.now test) }
     ensures stays { IfOk result (λ _. Stays slots.old.items slots.new.items) }
 {
     let first = slots.len();
@@ -419,40 +432,29 @@ fn test_of(
         return Ok(passed_test(question.tokens, first));
     }
     let known = gifts_of(tokens, question.others, text);
-    test_by_slots(plan, question, slots, text, known)
+    test_by_slots(question, slots, text, known)
 }
 
-/// What is known of all log types, by their numbers, their slots, and the bits of the runs that
-/// they leave to stamps.
-pub(crate) fn test_types<N: Names>(
-    plan: &Plan,
+/// What is known of the log type at a place, by its text, and the bits of the runs that it leaves
+/// to stamps. Its slots are listed behind those before.
+pub(crate) fn test_type(
     tokens: &[Token],
     runs: &[Run],
-    question: &Question<'_>,
-    names: &N,
+    question: &Question,
     slots: &mut Vec<Slot>,
-    tests: &mut Vec<TypeTest>,
-    alone: &mut Vec<u8>,
-) -> Result<(), AllocError>
-    requires tests { tests.old.items ≡ [] }
-    requires alone { alone.old.items ≡ [] }
-    ensures tests { OnOk result (HasAll tokens.now question.now.tokens
-        → AreKindBits tokens.now question.now.kinds → AreTests plan.now tokens.now
-        question.now.others (N.types names.now) slots.new.items tests.new.items) }
-    ensures alone { OnOk result (AreAlone runs.now (N.types names.now) alone.new.items) }
+    place: usize,
+    text: &[u8],
+) -> Result<TestedType, AllocError>
+    ensures test { IfOk result (λ tested. (ps : List Piece) → IsQuestion ps tokens.now question.now
+        → IsTest ps tokens.now question.now.others slots.new.items text.now tested.test) }
+    ensures alone { IfOk result (λ tested. IsAlone runs.now text.now tested.alone) }
+    ensures stays { IfOk result (λ _. Stays slots.old.items slots.new.items) }
 {
-    for number in 0..u32::MAX {
-        let Some(text) = names.type_text(number) else {
-            return Ok(());
-        };
-        let lacks = lacks_rare(tokens, question.lead, question.others, text);
-        let rare = rare_test(tokens, question, number, lacks, text);
-        let bits = left_to_stamps(runs, lacks || rare.is_some(), text);
-        let test = test_of(plan, tokens, question, slots, text, lacks, rare, bits)?;
-        tests.push(test)?;
-        alone.push(bits)?;
-    }
-    Ok(())
+    let lacks = lacks_rare(tokens, question.lead, question.others, text);
+    let rare = rare_test(tokens, question, place, lacks, text);
+    let alone = left_to_stamps(runs, lacks || rare.is_some(), text);
+    let test = test_of(tokens, question, slots, text, lacks, rare, alone)?;
+    Ok(TestedType { test, alone })
 }
 
 /// Whether a slot of this kind is listed.

@@ -2,7 +2,10 @@
 ghost use Rattle.std.specs.Prelude.{◌≡◌, ◌↔◌, List, Some, false, map, IsTrue};
 ghost use Rattle.logtype_text.specs.Parts.{Part, symbol_of};
 ghost use Rattle.logtype_text.specs.TypeText.{type_text};
+ghost use Rattle.query_plan.specs.declared.pieces.Piece.{Piece};
 ghost use Rattle.query_plan.specs.Laws.{HasNot};
+ghost use Rattle.query_plan.specs.Needs.{skeleton_of};
+ghost use Rattle.query_plan.specs.Pieces.{flat};
 ghost use Rattle.wild_match.specs.Matches.{Match};
 ghost use Rattle.subquery_filter.specs.StepsLetters.{mark_of, marked_from};
 ghost use Rattle.subquery_filter.specs.Verdicts.{BeginsMany, IsCertain, IsRejected};
@@ -117,17 +120,19 @@ pub fn verdict_of(plan: &Plan, text: &[u8]) -> Verdict
 
 /// What the text of a log type tells of its messages, among whose constant bytes all tokens stand.
 /// Mostly it is certain, so that is asked first.
-pub(crate) fn verdict_in_order(plan: &Plan, text: &[u8]) -> Verdict
-    ensures rejected { (parts : List Part) → text.now ≡ type_text (map symbol_of parts)
-        → result ≡ Verdict.Rejected → IsRejected plan.now parts }
-    ensures certain { (parts : List Part) → text.now ≡ type_text (map symbol_of parts)
-        → result ≡ Verdict.Certain → IsCertain plan.now parts }
+pub(crate) fn verdict_in_order(wide: &[Item], skeleton: &[Item], text: &[u8]) -> Verdict
+    ensures rejected { (ps : List Piece) → skeleton.now ≡ skeleton_of ps
+        → (parts : List Part) → text.now ≡ type_text (map symbol_of parts)
+        → result ≡ Verdict.Rejected → IsRejected ps parts }
+    ensures certain { (ps : List Piece) → wide.now ≡ flat ps
+        → (parts : List Part) → text.now ≡ type_text (map symbol_of parts)
+        → result ≡ Verdict.Certain → IsCertain ps parts }
 {
-    if is_certain(plan.wide().as_slice(), text) {
+    if is_certain(wide, text) {
         return Verdict::Certain;
     }
     let constants = TypeLetters { text, mark: None };
-    if matches_letters(plan.skeleton().as_slice(), constants) {
+    if matches_letters(skeleton, constants) {
         Verdict::Tried
     } else {
         Verdict::Rejected

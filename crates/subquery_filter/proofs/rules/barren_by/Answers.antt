@@ -10,21 +10,21 @@ use Rattle.subquery_filter.proofs.RuleLemmas.{first_rules, last_rules, outside_t
 use Rattle.subquery_filter.proofs.rules.barren_by.Goals as goal
 
 pub returns-then-is_outside : goal.returns-then-is_outside
-returns-then-is_outside g c = λ words is_head distinct numbers.
+returns-then-is_outside c = λ names words is_head distinct numbers are.
     let head = c.args.head.now in
     let tells = outside_tells c.args.range.now head c.is_outside.result is_head c.is_outside.ensures in
     first_rules (tells.0 c.if-is_outside.true)
 
 pub returns-else-lacks_found : goal.returns-else-lacks_found
-returns-else-lacks_found g c = λ known is_head distinct numbers.
+returns-else-lacks_found c = λ names known is_head distinct numbers are.
     let plan = c.args.plan.now in
     let words = subst (λ l. (w : List (List ℕ)) → IsStrictlyIncreasing l → AreDistinct w → AreNumbers w (needed_of Free plan) (needed_variables_of Free plan) c.args.found.now → IsTrue c.lacks_found.result ↔ LacksWord plan w l) c.as_slice.ensures c.lacks_found.ensures in
-    let types = subst (λ l. IsTrue c.lacks_types.result ↔ LacksTypes plan (g.N.Names.types c.args.names.now) l) c.as_slice-else-lacks_found.ensures c.lacks_types.ensures in
-    last_rules c.lacks_types.result (tells_not c.is_outside.result (outside_tells c.args.range.now c.args.head.now c.is_outside.result is_head c.is_outside.ensures) c.if-is_outside.false)
+    let types = subst (λ l. IsTrue c.lacks_told.result ↔ LacksTypes plan names l) c.as_slice-else-lacks_found.ensures (c.lacks_told.ensures plan names are) in
+    last_rules c.lacks_told.result (tells_not c.is_outside.result (outside_tells c.args.range.now c.args.head.now c.is_outside.result is_head c.is_outside.ensures) c.if-is_outside.false)
     (tells_not c.lacks_found.result (words known is_head.words.rise distinct numbers) c.if-lacks_found.false) types
 
 pub returns-then-lacks_found : goal.returns-then-lacks_found
-returns-then-lacks_found g c = λ known is_head distinct numbers.
+returns-then-lacks_found c = λ names known is_head distinct numbers are.
     let plan = c.args.plan.now in
     let words = subst (λ l. (w : List (List ℕ)) → IsStrictlyIncreasing l → AreDistinct w → AreNumbers w (needed_of Free plan) (needed_variables_of Free plan) c.args.found.now → IsTrue c.lacks_found.result ↔ LacksWord plan w l) c.as_slice.ensures c.lacks_found.ensures in
     third_rule c.lacks_found.result c.if-lacks_found.true (words known is_head.words.rise distinct numbers)
