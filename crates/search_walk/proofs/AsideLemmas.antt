@@ -27,6 +27,7 @@ use Rattle.archive_places.specs.Words.{texts_from, texts_place, texts_placed, ty
 use Rattle.row_codec.specs.declared.namer.Which.{Which}
 use Rattle.row_codec.specs.declared.namer.Which.TheVariants as which
 use Rattle.record_format.specs.Lists.{texts_payload}
+use Rattle.word_places.specs.Kept.{KeptTypes}
 use Rattle.word_places.specs.declared.place.WordsPlace.{WordsPlace}
 use Rattle.word_places.specs.Reads.{IsOfWords}
 use Rattle.archive_open.specs.Shown.{columns_begin, columns_end, head_in, order_of, places_from, places_of}
@@ -252,12 +253,12 @@ words_aside : (bytes : List ℕ) (h : Header) (es : List JournalEntry) (q : Aske
 words_aside bytes h es q r stood words =
     texts_aside bytes h es q r stood (record { place = words.place; one = Contains-append_right (types_places_of es) (words_places_of es) words.place words.one; low = words.low; high = words.high })
 
-pub reads_aside : (bytes : List ℕ) (h : Header) (es : List JournalEntry) (ps : List SegmentPlace) (q : Asked) (old new : Option (List (ℕ × ℕ))) (stood : StandsFor bytes h es) → IsPermutation (places_of es) ps
-    → ReadsOpened (names_in bytes h es stood.legal.held) q ps old new → ReadsNoBarren h es stood.legal.held q old new
-reads_aside bytes h es ps q old new stood are reads = record {
+pub reads_aside : (bytes : List ℕ) (h : Header) (es : List JournalEntry) (ps : List SegmentPlace) (q : Asked) (kept : KeptTypes) (old new : Option (List (ℕ × ℕ))) (stood : StandsFor bytes h es) → IsPermutation (places_of es) ps
+    → ReadsOpened (names_in bytes h es stood.legal.held kept) q ps old new → ReadsNoBarren h es stood.legal.held q old new
+reads_aside bytes h es ps q kept old new stood are reads = record {
   more = reads.more;
   added = reads.added;
-  each = All-weaker (IsRead (names_in bytes h es stood.legal.held) q ps) (λ r. MissesBarren h es stood.legal.held q r.0 r.1)
+  each = All-weaker (IsRead (names_in bytes h es stood.legal.held kept) q ps) (λ r. MissesBarren h es stood.legal.held q r.0 r.1)
       (λ r read. ⊎_elim (λ c. misses bytes h es q c.p r.0 r.1 stood (segment_there h es ps c.p are c.is) c.opened c.start c.end)
       (λ other. ⊎_elim (λ d. head_misses bytes h es q d.p r.0 r.1 stood (segment_there h es ps d.p are d.is) d.start d.end) (λ words. words_aside bytes h es q r stood words) other) read)
       reads.more reads.each;

@@ -32,24 +32,24 @@ use Rattle.search_walk.proofs.ReadyLemmas.{words_are, places_unread}
 use Rattle.search_walk.proofs.RowsHeld.{names_in, rows_told}
 use Rattle.search_walk.proofs.GroupLemmas.{shown_have}
 use Rattle.log_seams.specs.Disk.{DiskState}
-use Rattle.word_places.specs.Places.{AreWords, OfWords}
+use Rattle.word_places.specs.Places.{AreWords}
 use Rattle.word_places.specs.Reads.{IsOfWords}
 use Rattle.search_walk.proofs.AsideLemmas.{reads_aside, texts_places_of, texts_read_aside}
 use Rattle.search_walk.proofs.PagesReadLemmas.{none_added}
 
 -- the names that the code asks are those at the places
 pub record Knows (seen : Option (List ℕ)) (a : Places) (n : Named) : Type 0 where
-  pub types : OfWords seen a.types (λ texts. n.types ≡ texts)
+  pub types : n.types ≡ words_told seen a.types
   pub version : n.version ≡ a.header.version
   pub words : n.words ≡ words_told seen a.words
   pub told : n.told ≡ seen
   pub places : n.places ≡ a.words
 
-pub knows : (seen later : Option (List ℕ)) (a : Places) (held : HeldNames) (n : Named) → later ≡ seen → OfWords seen a.types (λ texts. held.types ≡ texts) → held.version ≡ a.header.version → held.records ≡ map unread a.words → n ≡ named later held → Knows seen a n
+pub knows : (seen later : Option (List ℕ)) (a : Places) (held : HeldNames) (n : Named) → later ≡ seen → held.type_places ≡ a.types → held.version ≡ a.header.version → held.records ≡ map unread a.words → n ≡ named later held → Knows seen a n
 knows seen later a held n same types version records is =
     let places : places_of held.records ≡ a.words = ap places_of records ∙ places_unread a.words in
     subst (Knows seen a) (sym is) (record {
-      types = types;
+      types = ap₂ words_told same types;
       version = version;
       words = ap₂ words_told same places;
       told = same;
@@ -64,13 +64,14 @@ words_at : (bytes : List ℕ) (h : Header) (es : List JournalEntry) (stood : Sta
 words_at bytes h es stood a law is = subst (λ (l : List WordsPlace). AreWords 0 l bytes stood.legal.held.words) (sym is.words) (law bytes h es stood)
 
 named_so : (bytes : List ℕ) (h : Header) (es : List JournalEntry) (stood : StandsFor bytes h es) (a : Places) (n : Named) → TypesStand → WordsStand → Knows (Some bytes) a n → ArePlacesOf a h es stood.legal.held
-    → n ≡ names_in bytes h es stood.legal.held
+    → n ≡ names_in bytes h es stood.legal.held n.kept
 named_so bytes h es stood a n types_law words_law known is = λ i. record {
   version = (known.version ∙ ap (λ (x : Header). x.version) is.header) i;
-  types = known.types stood.legal.held.types (types_at bytes h es stood a types_law is) i;
+  types = (known.types ∙ words_are 0 a.types bytes stood.legal.held.types (types_at bytes h es stood a types_law is)) i;
   words = (known.words ∙ words_are 0 a.words bytes stood.legal.held.words (words_at bytes h es stood a words_law is)) i;
   told = known.told i;
   places = (known.places ∙ is.words) i;
+  kept = n.kept;
 }
 
 -- ---- from segments to the journal
@@ -85,20 +86,20 @@ whole_is a h es held is = record { header = refl; kept = refl; files = is.files;
 pub of_journal : (seen : Option (List ℕ)) (a : Places) (n : Named) (files : List FileEntry) (fronts : List SegmentFront) (P : Named → List SegmentPlace → List ℕ → List Placed → Type 0) (Q : Header → List JournalEntry → Held → Type 0)
     → TypesStand → WordsStand → HeadsStand → files ≡ a.files → fronts ≡ a.segments → OpensPlaces seen a → Knows seen a n → OfFronts fronts (λ ps. OfSegments seen n files ps (P n ps))
     → ((bytes : List ℕ) (h : Header) (es : List JournalEntry) (stood : StandsFor bytes h es) (is : ArePlacesOf a h es stood.legal.held)
-    → P (names_in bytes h es stood.legal.held) is.ordered bytes (all_placed (content_of stood.legal.held)) → Q h es stood.legal.held)
+    → P (names_in bytes h es stood.legal.held n.kept) is.ordered bytes (all_placed (content_of stood.legal.held)) → Q h es stood.legal.held)
     → OfJournal seen Q
 of_journal None a n files fronts P Q types_law words_law heads_law same_files same_fronts opens known has step = tt
 of_journal (Some bytes) a n files fronts P Q types_law words_law heads_law same_files same_fronts opens known has step = λ h es stood.
     let is = opens h es stood in
     let held = stood.legal.held in
-    let m : Named = names_in bytes h es held in
+    let m : Named = names_in bytes h es held n.kept in
     let same : n ≡ m = named_so bytes h es stood a n types_law words_law known is in
     let all : List Placed = all_placed (content_of held) in
     let told : OfSegments (Some bytes) m a.files is.ordered (P m is.ordered) =
     subst (λ x. OfSegments (Some bytes) x a.files is.ordered (P x is.ordered)) same
     (subst (λ l. OfSegments (Some bytes) n l is.ordered (P n is.ordered)) same_files (has is.ordered (sym is.segments ∙ sym same_fronts))) in
     let heads : All (HasHeadAt bytes) is.ordered = All-permutation (HasHeadAt bytes) (segments_of es) is.ordered is.are (heads_law bytes h es stood) in
-    let have = rows_told bytes h es held a.files is.ordered all (words_law bytes h es stood) heads (shown_have bytes h es (shown_whole a h es held is) stood (whole_is a h es held is)) in
+    let have = rows_told bytes h es held a.files is.ordered all n.kept (words_law bytes h es stood) heads (shown_have bytes h es (shown_whole a h es held is) stood (whole_is a h es held is)) in
     step bytes h es stood is (told all (run_distinct h nothing_held held es nothing_distinct stood.legal.run) have)
 
 pub asked_is : (q : Asked) (pattern : List Item) (range : Range) → q.pattern ≡ pattern → q.range ≡ range → q ≡ asked pattern range
@@ -155,7 +156,7 @@ module _ (seen later : Option (List ℕ)) (a : Places) (n : Named) (files : List
       (λ bytes h es stood is has.
       texts_read_aside bytes h es q d0.ranges d1.ranges d2.ranges stood before.more before.added
       (subst (λ (l : List WordsPlace). All (λ r. IsOfWords l r.0 r.1) before.more) (texts_are a h es stood.legal.held is) before.within)
-      (reads_aside bytes h es is.ordered q d1.ranges d2.ranges stood is.are has))
+      (reads_aside bytes h es is.ordered q n.kept d1.ranges d2.ranges stood is.are has))
 
   pub all_damaged : NoFronts later n files fronts → OfJournal seen (λ _ _ _. ⊥)
   all_damaged none =

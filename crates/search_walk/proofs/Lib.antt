@@ -19,3 +19,4 @@ pub mod LoadedLemmas
 pub mod FrontLemmas
 pub mod SearchedLemmas
 pub mod PreparedLemmas
+pub mod TypeLemmas

@@ -12,7 +12,8 @@ use Rattle.row_codec.specs.Numbers.{numbers_of_row}
 use Rattle.subquery_filter.specs.declared.verdicts.Verdict.{Verdict}
 use Rattle.word_places.specs.declared.place.WordsPlace.{WordsPlace}
 use Rattle.word_places.specs.declared.held.HeldRecord.{HeldRecord}
-use Rattle.word_places.specs.Held.{AreHeld, AreNumbered, Grow, HeldNames, IsRight, RightTold, lends, places_of, unread}
+use Rattle.word_places.specs.Held.{AreHeld, AreNumbered, Grow, HeldNames, IsRight, KeepsTypes, RightTold, kept_of, lends, places_of, unread}
+use Rattle.word_places.specs.Kept.{KeptTypes}
 use Rattle.word_places.specs.Local.{Agree}
 use Rattle.word_places.specs.Places.{AreInOrder, AreWords, OfWords, payload_in}
 use Rattle.word_places.proofs.OrderLemmas.{unread_numbered}
@@ -47,9 +48,9 @@ told_agree (Some bytes) places words records numbers stand same numbered right h
 
 pub lent_row : (n : Named) (q : Asked) (held : HeldNames) (row : Row) (v : Verdict) → IsTold n → Serves n held → IsReady n q held.records row v → IsLent n q held row v
 lent_row n q held row v told serves ready = record {
-  types = serves.types;
+  types = ap (λ (k : KeptTypes). k.texts) serves.kept;
   decided = ready.decided told;
-  agree = λ not. told_agree n.told n.places n.words held.records (numbers_of_row n.types row) told serves.places serves.numbered serves.right (ready.held not);
+  agree = λ not. told_agree n.told n.places n.words held.records (numbers_of_row n.kept.texts row) told serves.places serves.numbered serves.right (ready.held not);
 }
 
 -- what stands at the same place of both lists
@@ -72,7 +73,7 @@ lent_at n q held rows verdicts k row v told page is at = lent_row n q held row v
 ready_grows : (n : Named) (q : Asked) (old new : List HeldRecord) (row : Row) (v : Verdict) → AreNumbered 0 old → AreNumbered 0 new → Grow old new → IsReady n q old row v → IsReady n q new row v
 ready_grows n q old new row v are_old are_new grow ready = record {
   decided = ready.decided;
-  held = λ not. grow_all_held old new (numbers_of_row n.types row) are_old are_new grow (ready.held not);
+  held = λ not. grow_all_held old new (numbers_of_row n.kept.texts row) are_old are_new grow (ready.held not);
 }
 
 pub rows_grow : (n : Named) (q : Asked) (old new : List HeldRecord) (rows : List Row) (verdicts : List Verdict) → AreNumbered 0 old → AreNumbered 0 new → Grow old new → AllZip (IsReady n q old) rows verdicts
@@ -83,12 +84,12 @@ rows_grow n q old new (r ∷ rows) [] are_old are_new grow each = absurd each
 rows_grow n q old new (r ∷ rows) (v ∷ verdicts) are_old are_new grow each = (ready_grows n q old new r v are_old are_new grow each.0, rows_grow n q old new rows verdicts are_old are_new grow each.1)
 
 -- a row that was decided, and whose words are held
-pub row_ready : (n : Named) (q : Asked) (held : HeldNames) (row : Row) (verdict : Verdict) → held.types ≡ n.types → (IsTold n → IsDecided n q row verdict) → IsHeldFor held row verdict → IsReady n q held.records row verdict
+pub row_ready : (n : Named) (q : Asked) (held : HeldNames) (row : Row) (verdict : Verdict) → kept_of held ≡ n.kept → (IsTold n → IsDecided n q row verdict) → IsHeldFor held row verdict → IsReady n q held.records row verdict
 row_ready n q held row verdict same decided are =
-    record { decided = decided; held = λ not. subst (λ (ts : List (List ℕ)). AreHeld held.records (numbers_of_row ts row)) same (are not) }
+    record { decided = decided; held = λ not. subst (λ (k : KeptTypes). AreHeld held.records (numbers_of_row k.texts row)) same (are not) }
 
 -- the same of each row
-pub rows_ready : (n : Named) (q : Asked) (held : HeldNames) (rows : List Row) (verdicts : List Verdict) → held.types ≡ n.types → AreDecided n q rows verdicts → AreHeldFor held rows verdicts
+pub rows_ready : (n : Named) (q : Asked) (held : HeldNames) (rows : List Row) (verdicts : List Verdict) → kept_of held ≡ n.kept → AreDecided n q rows verdicts → AreHeldFor held rows verdicts
     → AllZip (IsReady n q held.records) rows verdicts
 rows_ready n q held [] [] same decided are = tt
 rows_ready n q held [] (v ∷ verdicts) same decided are = absurd are
@@ -150,11 +151,15 @@ rows_all n q records rows verdicts k end decided each =
     let long : length verdicts ≡ length rows = zip_long (λ row v. IsTold n → IsDecided n q row v) rows verdicts decided in
     zip_all (IsReady n q records) rows verdicts k end (subst (λ l. AllZip (IsReady n q records) (take k rows) l) (take_all k verdicts (omega (arith, long, end))) each)
 
+-- the log types that are kept stayed
+pub kept_same : (old new : HeldNames) → KeepsTypes old new → kept_of new ≡ kept_of old
+kept_same old new same = λ i. record { texts = same.types i; left_out = same.left_out i; places = same.type_places i }
+
 -- the records went on, and the log types are the same
-pub serves_grown : (n : Named) (told : Option (List ℕ)) (old new : HeldNames) → told ≡ n.told → Serves n old → new.types ≡ old.types → Grow old.records new.records → AreNumbered 0 new.records
+pub serves_grown : (n : Named) (told : Option (List ℕ)) (old new : HeldNames) → told ≡ n.told → Serves n old → KeepsTypes old new → Grow old.records new.records → AreNumbered 0 new.records
     → (RightTold told old.records → RightTold told new.records) → Serves n new
-serves_grown n told old new same serves types grow numbered right = record {
-  types = types ∙ serves.types;
+serves_grown n told old new same serves keeps grow numbered right = record {
+  kept = kept_same old new keeps ∙ serves.kept;
   places = grow_places old.records new.records grow ∙ serves.places;
   numbered = numbered;
   right = subst (λ (t : Option (List ℕ)). RightTold t new.records) same (right (subst (λ (t : Option (List ℕ)). RightTold t old.records) (sym same) serves.right));
@@ -181,7 +186,7 @@ named_words seen later places held P same is of told =
 
 pub serves_first : (told : Option (List ℕ)) (held : HeldNames) (places : List WordsPlace) → held.records ≡ map unread places → AreInOrder 0 places → Serves (named told held) held
 serves_first told held places is order = record {
-  types = refl;
+  kept = refl;
   places = refl;
   numbered = subst (AreNumbered 0) (sym is) (unread_numbered 0 places order);
   right = subst (RightTold told) (sym is) (right_unread told places);

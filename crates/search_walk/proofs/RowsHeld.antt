@@ -15,6 +15,7 @@ use Rattle.archive_open.specs.declared.files.FileEntry.{FileEntry}
 use Rattle.archive_open.specs.declared.segments.SegmentPlace.{SegmentPlace}
 use Rattle.archive_places.specs.Heads.{HasHeadAt}
 use Rattle.archive_places.specs.Words.{words_places_of}
+use Rattle.word_places.specs.Kept.{KeptTypes}
 use Rattle.printed_lines.specs.Lines.{Placed, numbered}
 use Rattle.search_walk.specs.Held.{HaveMessages, IsTold, Named}
 
@@ -27,9 +28,9 @@ pub record Texts : Type 0 where
 abbrev pub texts_of : Header → Held → Texts
 texts_of h held = record { version = h.version; types = held.types; words = held.words }
 
--- the names of a journal whose bytes are told
-abbrev pub names_in : List ℕ → Header → List JournalEntry → Held → Named
-names_in bytes h es held = record { version = h.version; types = held.types; words = held.words; told = Some bytes; places = words_places_of es }
+-- the names of a journal whose bytes are told, of whose log types these are held
+abbrev pub names_in : List ℕ → Header → List JournalEntry → Held → KeptTypes → Named
+names_in bytes h es held kept = record { version = h.version; types = held.types; words = held.words; told = Some bytes; places = words_places_of es; kept = kept }
 
 pub record HasRows (bytes : List ℕ) (n : Texts) (p : SegmentPlace) (messages : List (List ℕ)) : Type 0 where
   pub rows : List Row
@@ -45,10 +46,10 @@ HaveRows bytes n files (p ∷ ps) all =
     × HaveRows bytes n files ps others × (all ≡ numbered file.name (p.head.first + 1) messages ++ others)
 
 -- where the words and the heads stand
-pub rows_told : (bytes : List ℕ) (h : Header) (es : List JournalEntry) (held : Held) (files : List FileEntry) (ps : List SegmentPlace) (all : List Placed) → IsTold (names_in bytes h es held) → All (HasHeadAt bytes) ps
-    → HaveRows bytes (texts_of h held) files ps all → HaveMessages bytes (names_in bytes h es held) files ps all
-rows_told bytes h es held files [] all told stand have = have
-rows_told bytes h es held files (p ∷ ps) all told stand have = (
+pub rows_told : (bytes : List ℕ) (h : Header) (es : List JournalEntry) (held : Held) (files : List FileEntry) (ps : List SegmentPlace) (all : List Placed) (kept : KeptTypes) → IsTold (names_in bytes h es held kept) → All (HasHeadAt bytes) ps
+    → HaveRows bytes (texts_of h held) files ps all → HaveMessages bytes (names_in bytes h es held kept) files ps all
+rows_told bytes h es held files [] all kept told stand have = have
+rows_told bytes h es held files (p ∷ ps) all kept told stand have = (
   have.0,
   have.1,
   have.2,
@@ -61,6 +62,6 @@ rows_told bytes h es held files (p ∷ ps) all told stand have = (
     head = have.4.head;
     most = have.4.most;
   },
-  rows_told bytes h es held files ps have.2 told (All-tail (HasHeadAt bytes) p ps stand) have.5,
+  rows_told bytes h es held files ps have.2 kept told (All-tail (HasHeadAt bytes) p ps stand) have.5,
   have.6,
 )

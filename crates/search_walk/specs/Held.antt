@@ -13,20 +13,22 @@ use Rattle.archive_open.specs.declared.files.FileEntry.{FileEntry}
 use Rattle.archive_open.specs.declared.segments.SegmentPlace.{SegmentPlace}
 use Rattle.archive_places.specs.Heads.{HasHeadAt}
 use Rattle.word_places.specs.declared.place.WordsPlace.{WordsPlace}
-use Rattle.word_places.specs.Held.{HeldNames, places_of}
+use Rattle.word_places.specs.Held.{HeldNames, kept_of, places_of}
+use Rattle.word_places.specs.Kept.{KeptTypes}
 use Rattle.word_places.specs.Places.{AreWords, payload_in}
 use Rattle.printed_lines.specs.Lines.{Placed, numbered}
 
 -- ---- names whose words stand on a disk
 
--- what the numbers of rows stand for, the archive's version, the bytes of the disk where they are told, and where the words
--- stand in them
+-- what the numbers of rows stand for, the archive's version, the bytes of the disk where they are told, where the words stand in
+-- them, and the log types that are held, of which some may be empty texts in place of what stands there
 pub record Named : Type 0 where
   pub version : ℕ
   pub types : List (List ℕ)
   pub words : List (List ℕ)
   pub told : Option (List ℕ)
   pub places : List WordsPlace
+  pub kept : KeptTypes
 
 -- the words at places of bytes, whatever these are, and none of a disk that tells no bytes
 abbrev pub words_told : Option (List ℕ) → List WordsPlace → List (List ℕ)
@@ -37,10 +39,11 @@ words_told (Some bytes) places = flat_map (λ p. list_in (drop 4 (payload_in p b
 abbrev pub named : Option (List ℕ) → HeldNames → Named
 named told held = record {
   version = held.version;
-  types = held.types;
+  types = words_told told held.type_places;
   words = words_told told (places_of held.records);
   told = told;
   places = places_of held.records;
+  kept = kept_of held;
 }
 
 abbrev pub StandIn : Option (List ℕ) → List WordsPlace → List (List ℕ) → Type 0

@@ -2,6 +2,7 @@ pub mod Held
 pub mod Told
 pub mod PagesRead
 pub mod StepsScope
+pub mod TypePass
 pub mod Ready
 pub mod Judged
 pub mod Opened

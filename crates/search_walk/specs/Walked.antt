@@ -1,6 +1,6 @@
 -- What a walk over pages and segments has done. What took the pages tells of the messages that it got past by a word on them,
 -- and by another of those among which it stopped.
-use Rattle.std.specs.Prelude.{◌≡◌, ◌<◌, ◌≤◌, ◌+◌, ℕ, List, [], ◌++◌, length, drop, Option, Some, None}
+use Rattle.std.specs.Prelude.{◌≡◌, ◌<◌, ◌≤◌, ◌+◌, ℕ, List, [], ◌++◌, length, drop, Option, Some, None, Result, IsErrOf, OnErr, OnOk}
 use Rattle.column_store.specs.declared.row.Row.{Row}
 use Rattle.segment_format.specs.Pages.{page_rows}
 use Rattle.segment_pages.specs.Paged.{HoldsLeft, IsLater, OfRows, Paged, paged_after, types_in}
@@ -9,7 +9,8 @@ use Rattle.archive_open.specs.declared.segments.SegmentPlace.{SegmentPlace}
 use Rattle.archive_places.specs.declared.front.SegmentFront.{SegmentFront}
 use Rattle.printed_lines.specs.Lines.{Picks, Placed, numbered}
 use Rattle.search_meaning.specs.Scan.{Asked, IsFound, IsTried}
-use Rattle.search_walk.specs.Held.{AreRowsOf, Named, OfSegments}
+use Rattle.search_walk.specs.declared.refusal.SearchRefusal.{SearchRefusal}
+use Rattle.search_walk.specs.Held.{AreRowsOf, Named, OfLeft, OfSegments}
 use Rattle.search_meaning.specs.Opened.{AreOpened}
 use Rattle.search_walk.specs.Opened.{OfFronts}
 use Rattle.search_walk.specs.Ready.{KeepsFirst}
@@ -48,6 +49,14 @@ PastTold Reaches None start n name number now count = Unit {0}
 PastTold Reaches (Some bytes) start n name number now count =
     (rows : List Row) (messages : List (List ℕ)) → HoldsLeft start bytes rows → AreRowsOf n rows messages
     → Past Reaches bytes n name number now count messages
+
+-- The pages that are left of a segment were gone over, the first of whose messages has this number, or the walk stopped among
+-- them. It was damage only where the bytes have no such pages, or what was in hand stands for no messages.
+pub record WentOverPages (Reaches Halts : List Placed → Type 0) (Stands : Type 0) (seen : Option (List ℕ)) (p : Paged) (n : Named)
+    (name : List ℕ) (number : ℕ) (r : Result (Unit {0}) SearchRefusal) : Type 0 where
+  pub done : OnOk r (OfLeft seen p n (λ messages. Reaches (numbered name number messages)))
+  pub stopped : OnErr r (OfLeft seen p n (λ messages. Halts (numbered name number messages)))
+  pub damaged : IsErrOf r SearchRefusal.Damaged → Stands → OfLeft seen p n (λ _. ⊥)
 
 -- ---- pages that nobody takes
 

@@ -20,11 +20,11 @@ use word_places::{Fit, Needle, WordsPlace, find_words, holders_have, word_found}
 
 /// What the words of an archive tell a search.
 #[derive(Drop)]
-pub struct Told {
+pub(crate) struct Told {
     /// The filter, with the marks of the words.
-    pub filter: Filter,
+    pub(crate) filter: Filter,
     /// The numbers of the needed words that are variables, each at its place in the plan.
-    pub found: Vec<Option<u32>>,
+    pub(crate) found: Vec<Option<u32>>,
 }
 
 /// The flag at a place.

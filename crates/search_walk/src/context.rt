@@ -11,14 +11,14 @@ ghost use Rattle.query_plan.specs.Pieces.{wide_pieces};
 ghost use Rattle.barren_segments.specs.Barren.{IsBounded, LeavesOut};
 ghost use Rattle.subquery_filter.specs.declared.filter.Filter.{Filter};
 ghost use Rattle.subquery_filter.specs.ByTypes.{NeedsNoVariable};
-ghost use Rattle.subquery_filter.specs.Filter.{HasNoMatch, IsFilter, Rejects};
+ghost use Rattle.subquery_filter.specs.Filter.{HasNoMatch, Rejects};
 ghost use Rattle.subquery_filter.specs.Page.{IsPage};
 ghost use Rattle.search_walk.specs.Held.{IsTold, Named, named};
 ghost use Rattle.search_meaning.specs.Opened.{IsBarrenFor};
 ghost use Rattle.search_walk.specs.Loaded.{OfLoaded};
 ghost use Rattle.search_walk.specs.Opened.{IsOpened, NoneTold};
 ghost use Rattle.search_walk.specs.Ready.{IsDecided, IsRuledOut};
-ghost use Rattle.search_walk.specs.StepsScope.{IsScope, scope};
+ghost use Rattle.search_walk.specs.StepsScope.{IsFilterOf, IsScope, scope};
 
 use crate::asking::has_variable;
 use crate::loaded::LoadedSegment;
@@ -36,7 +36,7 @@ use std::marker::Model;
 use std::snapshot::Snapshot;
 use std::sync::ledger::Ledger;
 use step_count::Steps;
-use subquery_filter::{Filter, PageTests, Verdict, barren_by, is_outside};
+use subquery_filter::{AskedTypes, Filter, PageTests, Verdict, barren_by, is_outside};
 use word_places::HeldWords;
 
 /// Of how many log types a search has layouts: the first ones, which most messages have, since a
@@ -45,13 +45,13 @@ use word_places::HeldWords;
 /// texts.
 pub(crate) const LAID_TYPES: u32 = 1024;
 
-/// What a search goes over, borrowed: the query, the first log types cut into pieces, what log
-/// types and words tell, and the files. It is the same in all calls of a search.
+/// What a search goes over, borrowed: the query, the first log types that are held, cut into
+/// pieces, what log types and words tell, and the files. It is the same in all calls of a search.
 #[derive(Drop)]
 pub struct Context<'q, D: Disk> {
     query: &'q Query,
     layouts: &'q Layouts,
-    filter: &'q Filter,
+    asked: &'q AskedTypes,
     files: &'q [FileEntry],
     /// The numbers of the needed words.
     found: &'q [Option<u32>],
@@ -70,30 +70,30 @@ impl<'q, D: Disk> Model for Context<'q, D> {
         c.query.now c.files.now };
 
     ghost invariant = { λ c. IsScope (named (D.state c.disk.value).seen c.held.value)
-        c.query.now c.layouts.now c.filter.now c.found.now };
+        c.query.now c.layouts.now c.asked.now c.found.now };
 }
 
 impl<'q, D: Disk> Context<'q, D> {
-    /// What is lent on. The layouts are those of the first log types, and the filter is that of the
-    /// query, over all of these and over the words that stand on the disk, of which the needed ones
-    /// have the numbers that were found.
+    /// What is lent on. The layouts are those of the first log types that are held. Log types and
+    /// words that stand on the disk were asked by the query, and the words that it needs have the
+    /// numbers that were found.
     pub fn new(
         query: &'q Query,
         layouts: &'q Layouts,
-        filter: &'q Filter,
+        asked: &'q AskedTypes,
         files: &'q [FileEntry],
         found: &'q [Option<u32>],
         held: &HeldWords,
         disk: &D,
     ) -> Context<'q, D>
         requires { IsScope (named (D.state disk.now).seen held.now)
-            query.now layouts.now filter.now found.now }
+            query.now layouts.now asked.now found.now }
         ensures { result ≡ scope (named (D.state disk.now).seen held.now) query.now files.now }
     {
         Context {
             query,
             layouts,
-            filter,
+            asked,
             files,
             found,
             held: Snapshot::of(held),
@@ -136,8 +136,7 @@ impl<'q, D: Disk> Context<'q, D> {
 
     /// Whether a segment's head tells that none of its messages is found. The pattern is one that
     /// was read, as the laws of barren segments ask.
-    pub fn is_barren(&self, held: &HeldWords, segment: &LoadedSegment) -> bool
-        requires { held.now.types ≡ self.now.names.types }
+    pub fn is_barren(&self, segment: &LoadedSegment) -> bool
         ensures told { OfLoaded self.now.query segment.now (λ p. IsTold self.now.names
             → IsHead p.head → AreDistinct self.now.names.words → IsTrue result ↔ IsBarrenFor
             self.now.names.types self.now.names.words self.now.query p) }
@@ -147,7 +146,7 @@ impl<'q, D: Disk> Context<'q, D> {
             &segment.place.head,
             self.query.plan(),
             self.query.range(),
-            held,
+            self.asked.constants.as_slice(),
             self.found,
         )
     }
@@ -161,9 +160,9 @@ impl<'q, D: Disk> Context<'q, D> {
     {
         let head = &segment.place.head;
         if segment.unread == 0 {
-            return self.filter.may_match(head);
+            return self.asked.filter.may_match(head);
         }
-        self.filter.may_match_types(head)
+        self.asked.filter.may_match_types(head)
     }
 
     /// Whether the lists of words in heads tell a search nothing: no word brings a token of the
@@ -174,7 +173,7 @@ impl<'q, D: Disk> Context<'q, D> {
         if has_variable(self.query.plan().needed_variables()) {
             return false;
         }
-        self.filter.spares_words()
+        self.asked.filter.spares_words()
     }
 
     /// Whether these log types tell that no message of a row that has one of them is expanded,
@@ -183,7 +182,7 @@ impl<'q, D: Disk> Context<'q, D> {
         ensures { IsTrue result → IsTold self.now.names
             → All (IsRuledOut self.now.names self.now.query) types.now }
     {
-        self.filter.rejects_all(types)
+        self.asked.filter.rejects_all(types)
     }
 
     /// What is told of a row by its moment, and by its numbers alone. One that is out of the range
@@ -197,19 +196,18 @@ impl<'q, D: Disk> Context<'q, D> {
 
     /// What log types and words tell of rows.
     pub fn filter(&self) -> &'q Filter
-        ensures { IsTold self.now.names → IsFilter (wide_pieces self.now.query.pattern)
-            self.now.names.types self.now.names.words result.now }
+        ensures { IsTold self.now.names
+            → IsFilterOf self.now.names self.now.query result.now }
     {
-        self.filter
+        &self.asked.filter
     }
 
     /// What is told of a row by its moment, and by its numbers alone, with what goes along from row
     /// to row of a page. The filter is the one that is lent on.
     #[inline]
     pub fn decide_in(&self, filter: &Filter, row: RowRef<'_>, page: &mut PageTests) -> Verdict
-        ensures decided { IsPage filter.now page.old → (IsTold self.now.names
-            → IsFilter (wide_pieces self.now.query.pattern)
-            self.now.names.types self.now.names.words filter.now)
+        ensures decided { IsPage filter.now page.old
+            → (IsTold self.now.names → IsFilterOf self.now.names self.now.query filter.now)
             → IsTold self.now.names
             → IsDecided self.now.names self.now.query (row_of row.entry) result }
         ensures kept { (f : Filter) → IsPage f page.old → IsPage f page.new }
@@ -236,8 +234,7 @@ impl<'q, D: Disk> Context<'q, D> {
         requires { place < length rows.now.rows }
         ensures decided { (row : Row) → slice_get rows.now.rows place ≡ Some row
             → (IsTrue known → Rejects filter.now row) → IsPage filter.now page.old
-            → (IsTold self.now.names → IsFilter (wide_pieces self.now.query.pattern)
-            self.now.names.types self.now.names.words filter.now)
+            → (IsTold self.now.names → IsFilterOf self.now.names self.now.query filter.now)
             → IsTold self.now.names → IsDecided self.now.names self.now.query row result }
         ensures kept { (f : Filter) → IsPage f page.old → IsPage f page.new }
     {
@@ -257,9 +254,9 @@ impl<'q, D: Disk> Context<'q, D> {
         self.query
     }
 
-    /// The first log types, cut into pieces.
+    /// The first log types that are held, cut into pieces.
     pub fn layouts(&self) -> &'q Layouts
-        ensures { AreCut result.now self.now.names.types }
+        ensures { AreCut result.now self.now.names.kept.texts }
     {
         self.layouts
     }

@@ -15,9 +15,9 @@ mod query;
 mod refusal;
 mod segments;
 mod taking;
+mod type_asking;
 mod verdicts;
 
-pub use asking::Told;
 pub use context::Context;
 pub use deciding::{decide_page, decide_rows, has_rows, hold_rows};
 pub use label::Label;

@@ -1,10 +1,8 @@
 //! The pages of a segment, read one after the other.
-ghost use Rattle.std.specs.Prelude.{◌≡◌, ◌<◌, ◌+◌, ◌^◌, IfSome, OnOk, OnErr, IsErrOf};
+ghost use Rattle.std.specs.Prelude.{◌≡◌, ◌<◌, ◌+◌, ◌^◌, IfSome, OnOk};
 ghost use Rattle.log_seams.specs.Outside.{CountsOf};
 ghost use Rattle.search_walk.specs.PagesRead.{ReadsPage};
-ghost use Rattle.search_walk.specs.Held.{OfLeft};
-ghost use Rattle.printed_lines.specs.Lines.{numbered};
-ghost use Rattle.search_walk.specs.Walked.{TellAhead};
+ghost use Rattle.search_walk.specs.Walked.{TellAhead, WentOverPages};
 
 use crate::context::Context;
 use crate::label::Label;
@@ -40,18 +38,13 @@ fn take_pages<D: Disk, W: TakesPages>(
     ensures served { OnOk result (W.served work.new context.now held.new) }
 
     // by the answer
-    ensures done { OnOk result (OfLeft (D.state disk.old).seen pages
-        context.now.names (λ messages. W.reaches work.old work.new
-        context.now.names context.now.query
-        (numbered label.entry.name.now label.entry.number messages))) }
-    ensures stopped { OnErr result (OfLeft (D.state disk.old).seen pages
-        context.now.names (λ messages. W.halts work.old work.new
-        context.now.names context.now.query
-        (numbered label.entry.name.now label.entry.number messages))) }
+    ensures went { WentOverPages
+        (W.reaches work.old work.new context.now.names context.now.query)
+        (W.halts work.old work.new context.now.names context.now.query)
+        (W.stands work.old context.now.names) (D.state disk.old).seen pages context.now.names
+        label.entry.name.now label.entry.number result }
 
     // causes
-    ensures damaged { IsErrOf result SearchRefusal.Damaged → W.stands work.old context.now.names
-        → OfLeft (D.state disk.old).seen pages context.now.names (λ _. ⊥) }
     ensures disk_counts { CountsOf SearchRefusal.DiskFault
         (D.state disk.old).faults (D.state disk.new).faults result }
     ensures sink_counts { CountsOf SearchRefusal.SinkFault
@@ -94,18 +87,13 @@ pub(crate) fn read_pages<D: Disk, W: TakesPages>(
     ensures served { OnOk result (W.served work.new context.now held.new) }
 
     // by the answer
-    ensures done { OnOk result (OfLeft (D.state disk.old).seen pages
-        context.now.names (λ messages. W.reaches work.old work.new
-        context.now.names context.now.query
-        (numbered label.entry.name.now label.entry.number messages))) }
-    ensures stopped { OnErr result (OfLeft (D.state disk.old).seen pages
-        context.now.names (λ messages. W.halts work.old work.new
-        context.now.names context.now.query
-        (numbered label.entry.name.now label.entry.number messages))) }
+    ensures went { WentOverPages
+        (W.reaches work.old work.new context.now.names context.now.query)
+        (W.halts work.old work.new context.now.names context.now.query)
+        (W.stands work.old context.now.names) (D.state disk.old).seen pages context.now.names
+        label.entry.name.now label.entry.number result }
 
     // causes
-    ensures damaged { IsErrOf result SearchRefusal.Damaged → W.stands work.old context.now.names
-        → OfLeft (D.state disk.old).seen pages context.now.names (λ _. ⊥) }
     ensures disk_counts { CountsOf SearchRefusal.DiskFault
         (D.state disk.old).faults (D.state disk.new).faults result }
     ensures sink_counts { CountsOf SearchRefusal.SinkFault

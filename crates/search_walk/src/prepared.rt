@@ -8,29 +8,32 @@ ghost use Rattle.search_walk.specs.Held.{named};
 ghost use Rattle.search_walk.specs.Prepared.{IsReadyFor, KeepsPlaces, LacksTexts, ReadsTexts};
 ghost use Rattle.search_walk.specs.StepsScope.{IsScope, scope};
 
-use crate::asking::{Told, ask_words};
+use crate::asking::ask_words;
 use crate::context::{Context, LAID_TYPES};
 use crate::query::Query;
 use crate::refusal::SearchRefusal;
+use crate::type_asking::ask_types;
 use archive_open::FileList;
 use archive_places::{FrontList, Places};
 use log_seams::Disk;
 use row_codec::Layouts;
 use std::alloc::Global;
-use subquery_filter::Filter;
-use word_places::{HeldWords, TypeTexts};
+use subquery_filter::{AskedTypes, Filter};
+use word_places::HeldWords;
 
-/// An archive whose words were asked what a query leaves to them.
+/// An archive whose words and log types were asked what a query leaves to them.
 #[derive(Drop)]
 pub struct AskedArchive {
     /// The files, each at its number.
     pub files: FileList,
     /// The segments, sorted by file and first message.
     pub segments: FrontList,
-    /// The first log types, cut into their constants and slots.
+    /// The first log types that are held, cut into their constants and slots.
     pub layouts: Layouts,
-    /// The filter of the query, and the numbers of the words that it needs.
-    pub told: Told,
+    /// What its log types tell: the filter of the query, with the marks of its words.
+    pub asked: AskedTypes,
+    /// The numbers of the words that the query needs, each at its place in the plan.
+    pub found: Vec<Option<u32>>,
 }
 
 impl AskedArchive {
@@ -42,37 +45,29 @@ impl AskedArchive {
         disk: &D,
     ) -> Context<'q, D>
         requires { IsScope (named (D.state disk.now).seen held.now) query.now
-            self.now.layouts self.now.told.filter self.now.told.found.items }
+            self.now.layouts self.now.asked self.now.found.items }
         ensures { result ≡ scope (named (D.state disk.now).seen held.now)
             query.now self.now.files }
     {
         let files = self.files.as_slice();
-        let found = self.told.found.as_slice();
-        Context::new(
-            query,
-            &self.layouts,
-            &self.told.filter,
-            files,
-            found,
-            held,
-            disk,
-        )
+        let found = self.found.as_slice();
+        Context::new(query, &self.layouts, &self.asked, files, found, held, disk)
     }
 }
 
 /// What a walk begins with.
 #[derive(Drop)]
 pub struct Prepared {
-    /// The words, none of which is held yet, beside the log types.
+    /// The words, none of which is held yet, beside the log types that are left.
     pub held: HeldWords,
     /// What the walk goes over by them.
     pub archive: AskedArchive,
 }
 
 impl Prepared {
-    /// Reads the log types of an archive and cuts the first of them, and asks its words what a
-    /// query leaves to them, and then its log types, of which most are rejected by what the words
-    /// do not bring.
+    /// Asks the words of an archive what a query leaves to them, and then each of its log types as
+    /// it is read: most are rejected by what the words do not bring, and only the others are held,
+    /// of which the first are cut.
     ///
     /// # Errors
     ///
@@ -110,22 +105,19 @@ impl Prepared {
             segments,
             ..
         } = places;
-        let texts = TypeTexts::read(alloc, disk, types.as_slice())?;
         let records = words.as_slice();
-        let held = HeldWords::new(alloc, texts, header.version, records)?;
-        let layouts = Layouts::front(alloc, &held, LAID_TYPES)?;
         let plan = query.plan();
         let filter = Filter::begin(alloc, plan)?;
         let told = ask_words(alloc, query, filter, records, disk)?;
-        let asked = told.filter.ask(alloc, plan, &held)?;
+        let passed = ask_types(alloc, plan, told.filter, types.as_slice(), disk)?;
+        let held = HeldWords::new(alloc, passed.texts, header.version, records)?;
+        let layouts = Layouts::front(alloc, &held, LAID_TYPES)?;
         let archive = AskedArchive {
             files,
             segments,
             layouts,
-            told: Told {
-                filter: asked,
-                found: told.found,
-            },
+            asked: passed.asked,
+            found: told.found,
         };
         Ok(Prepared { held, archive })
     }

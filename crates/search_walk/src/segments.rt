@@ -67,7 +67,7 @@ fn search_segment<D: Disk, W: TakesPages, L: Ledger>(
     // over matches; and what the pattern matches, that one matches too.
     barren_has_no_match();
     wide_is_wider();
-    if context.is_barren(held, segment) {
+    if context.is_barren(segment) {
         return Ok(false);
     }
     let Some((file, pages)) = context.begin_segment(segment, opened) else {

@@ -12,7 +12,7 @@ pub returns-then-known-clause-grow : goal.returns-then-known-clause-grow
 returns-then-known-clause-grow g c = grow_same c.args.held.now.records
 
 pub returns-then-known-clause-ready : goal.returns-then-known-clause-ready
-returns-then-known-clause-ready g c = rows_ready c.args.context.now.names c.args.context.now.query c.args.held.now c.args.page.now.rows c.args.verdicts.now c.requires.serves.types c.requires.decided (c.requires.known (search rules))
+returns-then-known-clause-ready g c = rows_ready c.args.context.now.names c.args.context.now.query c.args.held.now c.args.page.now.rows c.args.verdicts.now c.requires.serves.kept c.requires.decided (c.requires.known (search rules))
 
 pub loop-place-init : goal.loop-place-init
 loop-place-init g c = record {

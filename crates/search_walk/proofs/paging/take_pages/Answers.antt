@@ -16,17 +16,23 @@ loop-pages-init g c =
 pub returns-in_err-rows-clause-reads : goal.returns-in_err-rows-clause-reads
 returns-in_err-rows-clause-reads g c = pages_reads _ _ _ _ _ c.args.pages c.loop-pages.pages _ c.args.label.name.now c.args.label.number c.loop-pages.at c.loop-pages.invariant.0 c.take_next.ensures.reads
 
-pub returns-in_err-rows-clause-stopped : goal.returns-in_err-rows-clause-stopped
-returns-in_err-rows-clause-stopped g c =
+pub returns-in_err-rows-clause-went : goal.returns-in_err-rows-clause-went
+returns-in_err-rows-clause-went g c =
     let n : Named = c.args.context.now.names in
     let q = c.args.context.now.query in
     let a = c.args.work.now in
     let b = c.loop-pages.work in
     let d = c.take_next.new.work in
-    on_err c.from_residual.result _
-    (past_stops (g.W.TakesPages.reaches a b n q) (g.W.TakesPages.halts b d n q) (g.W.TakesPages.halts a d n q) _ _ c.args.pages c.loop-pages.pages n c.args.label.name.now c.args.label.number c.loop-pages.at c.loop-pages.pages.pages.row
-    (λ xs ys f h. g.met.W.TakesPages.stops_behind a b d n q xs ys f h)
-    c.loop-pages.invariant.0.reads.rests.seen c.loop-pages.invariant.0.place c.loop-pages.invariant.0.past c.in_err-rows.ensures.stopped)
+    record {
+      done = search rules;
+      stopped = on_err c.from_residual.result _
+          (past_stops (g.W.TakesPages.reaches a b n q) (g.W.TakesPages.halts b d n q) (g.W.TakesPages.halts a d n q) _ _ c.args.pages c.loop-pages.pages n c.args.label.name.now c.args.label.number c.loop-pages.at c.loop-pages.pages.pages.row
+          (λ xs ys f h. g.met.W.TakesPages.stops_behind a b d n q xs ys f h)
+          c.loop-pages.invariant.0.reads.rests.seen c.loop-pages.invariant.0.place c.loop-pages.invariant.0.past c.in_err-rows.ensures.stopped);
+      damaged = λ is stands.
+          past_damaged (g.W.TakesPages.reaches a b n q) (g.W.TakesPages.stands b n) _ _ c.args.pages c.loop-pages.pages n c.args.label.name.now c.args.label.number c.loop-pages.pages.pages.row (λ xs f. g.met.W.TakesPages.stands_on a b n q xs f stands)
+          c.loop-pages.invariant.0.reads.rests.seen c.loop-pages.invariant.0.past (c.in_err-rows.ensures.damaged (search rules));
+    }
 
 pub loop-pages-preserved : goal.loop-pages-preserved
 loop-pages-preserved g c =
@@ -43,19 +49,14 @@ loop-pages-preserved g c =
       search rules,
     )
 
-pub returns-clause-done : goal.returns-clause-done
-returns-clause-done g c =
-    past_end (g.W.TakesPages.reaches c.args.work.now c.loop-pages.work c.args.context.now.names c.args.context.now.query) _ c.args.pages c.loop-pages.pages _ c.args.label.name.now c.args.label.number c.loop-pages.pages.pages.row none_left (search rules)
-    c.loop-pages.invariant.0.past
-
-pub returns-in_err-rows-clause-damaged : goal.returns-in_err-rows-clause-damaged
-returns-in_err-rows-clause-damaged g c = λ is stands.
-    let n : Named = c.args.context.now.names in
-    let q = c.args.context.now.query in
-    let a = c.args.work.now in
-    let b = c.loop-pages.work in
-    past_damaged (g.W.TakesPages.reaches a b n q) (g.W.TakesPages.stands b n) _ _ c.args.pages c.loop-pages.pages n c.args.label.name.now c.args.label.number c.loop-pages.pages.pages.row (λ xs f. g.met.W.TakesPages.stands_on a b n q xs f stands)
-    c.loop-pages.invariant.0.reads.rests.seen c.loop-pages.invariant.0.past (c.in_err-rows.ensures.damaged (search rules))
+pub returns-clause-went : goal.returns-clause-went
+returns-clause-went g c = record {
+  done =
+      past_end (g.W.TakesPages.reaches c.args.work.now c.loop-pages.work c.args.context.now.names c.args.context.now.query) _ c.args.pages c.loop-pages.pages _ c.args.label.name.now c.args.label.number c.loop-pages.pages.pages.row none_left (search rules)
+      c.loop-pages.invariant.0.past;
+  stopped = tt;
+  damaged = search rules;
+}
 
 pub take_next-requires-clause-left : goal.take_next-requires-clause-left
 take_next-requires-clause-left g c =

@@ -60,11 +60,11 @@ returns-in_err-read_pages-clause-stopped g c =
     (λ p is.
     let own = c.in-Some.ensures.some p is in
     opened_stops (g.W.TakesPages.halts c.args.work.now c.read_pages.new.work n q) _ n c.args.context.now.files c.in-Some.file.now q p c.is_barren.result c.in-Some.pages c.as_slice-name.result.now _ _ _ (c.is_barren.ensures.told p is) (search rules) own.file
-    (search rules) (ap (λ (k : ℕ). k + 1) (loaded_first q c.args.segment.now p is)) own.holds c.in_err-read_pages.ensures.stopped own.ticked)
+    (search rules) (ap (λ (k : ℕ). k + 1) (loaded_first q c.args.segment.now p is)) own.holds c.in_err-read_pages.ensures.went.stopped own.ticked)
 
 pub returns-in_err-read_pages-clause-damaged : goal.returns-in_err-read_pages-clause-damaged
 returns-in_err-read_pages-clause-damaged g c = λ damaged stands p is.
-    left_none _ _ c.args.context.now.files p c.in-Some.pages (c.in-Some.ensures.some p is).holds (c.in_err-read_pages.ensures.damaged (search rules) stands)
+    left_none _ _ c.args.context.now.files p c.in-Some.pages (c.in-Some.ensures.some p is).holds (c.in_err-read_pages.ensures.went.damaged (search rules) stands)
 
 pub returns-clause-reads : goal.returns-clause-reads
 returns-clause-reads g c = λ p is.
@@ -78,7 +78,7 @@ returns-clause-done g c = λ p is.
     let q = c.args.context.now.query in
     let own = c.in-Some.ensures.some p is in
     opened_done (g.W.TakesPages.reaches c.args.work.now c.read_pages.new.work n q) _ n c.args.context.now.files c.in-Some.file.now q p c.is_barren.result c.in-Some.pages c.as_slice-name.result.now _ _ _ (c.is_barren.ensures.told p is) (search rules) own.file
-    (search rules) (ap (λ (k : ℕ). k + 1) (loaded_first q c.args.segment.now p is)) own.holds c.in_ok-read_pages.ensures.done own.ticked
+    (search rules) (ap (λ (k : ℕ). k + 1) (loaded_first q c.args.segment.now p is)) own.holds c.in_ok-read_pages.ensures.went.done own.ticked
 
 pub returns-then-not-may_match-clause-reads : goal.returns-then-not-may_match-clause-reads
 returns-then-not-may_match-clause-reads g c = λ p is. nothing_read _ _ c.args.context.now.files c.args.context.now.query _ _ _ (search rules)
@@ -94,6 +94,3 @@ returns-then-not-may_match-clause-done g c = λ p is.
     let none = c.may_match.ensures (search rules) p is in
     unmatched_done (g.W.TakesPages.reaches w w n q) _ n c.args.context.now.files q p c.is_barren.result _ _ (λ all found tried. g.met.W.TakesPages.passes_over w n q all found tried) c.wide_is_wider.ensures.wider (c.is_barren.ensures.told p is) (search rules)
     none (c.in-Some.ensures.some p is).ticked
-
-pub is_barren-requires : goal.is_barren-requires
-is_barren-requires g c = (g.met.W.TakesPages.has_words c.args.work.now c.args.context.now _ c.requires.served).types

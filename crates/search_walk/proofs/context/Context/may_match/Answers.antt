@@ -13,7 +13,7 @@ returns-then-segment-eq0 g c = λ no.
     let n : Named = named (g.D.Disk.state own.disk.value).seen own.held.value in
     let segment = c.args.segment.now in
     subst (λ (s : Scope). OfLoaded s.query segment (λ p. IsTold s.names → HasNoMatch (wide_pieces s.query.pattern) s.names.types s.names.words p.head)) c.self.view_is
-    (λ p is told. whole_unmatched n own.query.now segment (search rules) (c.may_match.ensures no own.query.now.pattern n.types n.words c.self.invariant.searched (c.self.invariant.filtered told)) p is)
+    (λ p is told. whole_unmatched n own.query.now segment (search rules) (c.may_match.ensures no own.query.now.pattern n.types n.words c.self.invariant.searched (c.self.invariant.filtered told).is) p is)
 
 pub returns : goal.returns
 returns g c = λ no.
@@ -23,4 +23,4 @@ returns g c = λ no.
     subst (λ (s : Scope). OfLoaded s.query segment (λ p. IsTold s.names → HasNoMatch (wide_pieces s.query.pattern) s.names.types s.names.words p.head)) c.self.view_is
     (λ p is told.
     spared_unmatched n own.query.now segment (search rules)
-    (λ (words : List ℕ). c.may_match_types.ensures no own.query.now.pattern n.types n.words c.self.invariant.searched (c.self.invariant.filtered told) words) p is)
+    (λ (words : List ℕ). c.may_match_types.ensures no own.query.now.pattern n.types n.words c.self.invariant.searched (c.self.invariant.filtered told).is words) p is)

@@ -17,4 +17,4 @@ returns g c = λ yes told.
     subst (λ (s : Scope). IsTold s.names → All (IsRuledOut s.names s.query) c.args.types.now) c.self.view_is
     (λ is_told.
     All-weaker (RejectsType (wide_pieces q.pattern) n.types n.words) (IsRuledOut n q) (λ t rejects. ruled_out n q t rejects) c.args.types.now
-    (c.rejects_all.ensures yes q.pattern n.types n.words c.self.invariant.searched (c.self.invariant.filtered is_told))) told
+    (c.rejects_all.ensures yes q.pattern n.types n.words c.self.invariant.searched (c.self.invariant.filtered is_told).is)) told

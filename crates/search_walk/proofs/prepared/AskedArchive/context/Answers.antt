@@ -8,7 +8,7 @@ use Rattle.search_walk.proofs.prepared.AskedArchive.context.Goals as goal
 pub new-requires : goal.new-requires
 new-requires g c =
     let n : Named = named (g.D.Disk.state c.args.disk.now).seen c.args.held.now in
-    subst (λ (l : List (Option ℕ)). IsScope n c.args.query.now c.args.self.now.layouts c.args.self.now.told.filter l) (sym c.as_slice-found.ensures.value) c.requires
+    subst (λ (l : List (Option ℕ)). IsScope n c.args.query.now c.args.self.now.layouts c.args.self.now.asked l) (sym c.as_slice-found.ensures.value) c.requires
 
 pub returns : goal.returns
 returns g c =
