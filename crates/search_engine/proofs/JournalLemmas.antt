@@ -25,7 +25,7 @@ module _ (seen later : Option (List ℕ)) (a : Places) (n : Named) (files : List
   all_stopped q w0 w z e0 e1 o0 o1 none stopped =
       of_journal seen a n files fronts (λ m l _ all. Stopped m q l all (state w0 z e0) w e1 o0 o1) (λ h es held. HasStopped h es held q w0 w o0 o1 e0 e1) types_law words_law heads_law same_files same_fronts opens known
       (λ l is. subst (λ s. OfSegments s n files l (λ _ all. Stopped n q l all (state w0 z e0) w e1 o0 o1)) same (stopped l is))
-      (λ bytes h es stood is has. has_stopped bytes h es q is.ordered w0 w z o0 o1 e0 e1 stood (record { are = is.are; sorted = is.sorted }) none has)
+      (λ bytes h es stood is has. has_stopped bytes h es q n.kept is.ordered w0 w z o0 o1 e0 e1 stood (record { are = is.are; sorted = is.sorted }) none has)
 
   -- the last pages did not all go out
   pub last_halted : (q : Asked) (w0 w : Option (List ℕ)) (z : Pending) (b : State) (e0 e1 o0 o1 count : ℕ) → z ≡ nothing_pending → SearchedFronts later n files q fronts (state w0 z e0) b o0 o1 count → Halts n q [] b w e1
@@ -53,4 +53,4 @@ module _ (seen later : Option (List ℕ)) (a : Places) (n : Named) (files : List
       (λ bytes h es stood is has.
       let long : length is.ordered ≡ length fronts = sym (length-map is.ordered front_of_place) ∙ ap (λ (l : List SegmentFront). length l) (sym is.segments ∙ sym same_fronts) in
       subst (λ k. HasSearched h es stood.legal.held q (record { matched = counts.matched; expanded = counts.expanded; opened = count; segments = k }) w0 w2 o0 o1 e0 e2) long
-      (has_searched bytes h es q is.ordered counts count w0 w2 y z b o0 o1 e0 e2 stood (record { are = is.are; sorted = is.sorted }) none counted has.0 has.1 done))
+      (has_searched bytes h es q n.kept is.ordered counts count w0 w2 y z b o0 o1 e0 e2 stood (record { are = is.are; sorted = is.sorted }) none counted has.0 has.1 done))

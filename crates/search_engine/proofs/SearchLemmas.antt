@@ -7,6 +7,7 @@ use Rattle.archive_meaning.specs.Held.{content_of}
 use Rattle.archive_meaning.specs.Stands.{StandsFor}
 use Rattle.archive_open.specs.declared.segments.SegmentPlace.{SegmentPlace}
 use Rattle.search_engine.specs.declared.counts.Counts.{Counts}
+use Rattle.word_places.specs.Kept.{KeptTypes}
 use Rattle.printed_lines.specs.Lines.{Placed, lines_of}
 use Rattle.search_meaning.specs.Scan.{Asked, IsFound, IsTried, all_placed}
 use Rattle.sink_pieces.specs.Output.{GrewByFront}
@@ -28,22 +29,22 @@ use Rattle.search_walk.proofs.GroupLemmas.{content_small}
 
 -- ---- what was done
 
-pub has_searched : (bytes : List ℕ) (h : Header) (es : List JournalEntry) (q : Asked) (ps : List SegmentPlace) (counts : Counts) (count : ℕ) (w0 w2 : Option (List ℕ)) (y z : Pending) (b : State) (o0 o1 e0 e2 : ℕ) (stood : StandsFor bytes h es)
-    → AreSegmentsOf es ps → y ≡ nothing_pending → counts ≡ z.counts → Searched (names_in bytes h es stood.legal.held) q ps (all_placed (content_of stood.legal.held)) (state w0 y e0) b o0 o1 count → Reaches (names_in bytes h es stood.legal.held) q [] b (state w2 z e2)
+pub has_searched : (bytes : List ℕ) (h : Header) (es : List JournalEntry) (q : Asked) (kept : KeptTypes) (ps : List SegmentPlace) (counts : Counts) (count : ℕ) (w0 w2 : Option (List ℕ)) (y z : Pending) (b : State) (o0 o1 e0 e2 : ℕ) (stood : StandsFor bytes h es)
+    → AreSegmentsOf es ps → y ≡ nothing_pending → counts ≡ z.counts → Searched (names_in bytes h es stood.legal.held kept) q ps (all_placed (content_of stood.legal.held)) (state w0 y e0) b o0 o1 count → Reaches (names_in bytes h es stood.legal.held kept) q [] b (state w2 z e2)
     → (z.pages ≡ []) × (z.gathered ≡ [])
     → HasSearched h es stood.legal.held q (record { matched = counts.matched; expanded = counts.expanded; opened = count; segments = length ps }) w0 w2 o0 o1 e0 e2
-has_searched bytes h es q ps counts count w0 w2 y z b o0 o1 e0 e2 stood are none counted started finished done =
-    let searched = subst (λ (x : Pending). Searched (names_in bytes h es stood.legal.held) q ps (all_placed (content_of stood.legal.held)) (state w0 x e0) b o0 o1 count) none started in
+has_searched bytes h es q kept ps counts count w0 w2 y z b o0 o1 e0 e2 stood are none counted started finished done =
+    let searched = subst (λ (x : Pending). Searched (names_in bytes h es stood.legal.held kept) q ps (all_placed (content_of stood.legal.held)) (state w0 x e0) b o0 o1 count) none started in
     let all : List Placed = all_placed (content_of stood.legal.held) in
     let small = content_small bytes h es stood in
     let a : Sofar = sofar w0 [] no_counts e0 in
     let c : Sofar = sofar w2 z.gathered counts e2 in
-    let whole : Reaches (names_in bytes h es stood.legal.held) q all (state w0 nothing_pending e0) (state w2 z e2) =
-    subst (λ l. Reaches (names_in bytes h es stood.legal.held) q l (state w0 nothing_pending e0) (state w2 z e2)) (append-nil all)
-    (reaches_on (names_in bytes h es stood.legal.held) q all [] (state w0 nothing_pending e0) b (state w2 z e2) searched.reaches finished) in
+    let whole : Reaches (names_in bytes h es stood.legal.held kept) q all (state w0 nothing_pending e0) (state w2 z e2) =
+    subst (λ l. Reaches (names_in bytes h es stood.legal.held kept) q l (state w0 nothing_pending e0) (state w2 z e2)) (append-nil all)
+    (reaches_on (names_in bytes h es stood.legal.held kept) q all [] (state w0 nothing_pending e0) b (state w2 z e2) searched.reaches finished) in
     let p : Passes h.version q all a c =
     subst (λ t. Passes h.version q all a (sofar w2 z.gathered t e2)) (sym counted)
-    (reaches_end (names_in bytes h es stood.legal.held) q all (state w0 nothing_pending e0) (state w2 z e2) refl done.0 whole) in
+    (reaches_end (names_in bytes h es stood.legal.held kept) q all (state w0 nothing_pending e0) (state w2 z e2) refl done.0 whole) in
     let found_short = picks_short (λ x. IsFound h.version q x.message) all p.found p.are_found in
     let tried_short = picks_short (λ x. IsTried h.version q x.message) all p.tried p.are_tried in
     let m : counts.matched ≡ length p.found = p.advances.matched (omega (arith, found_short, small)) ∙ omega arith in
@@ -63,10 +64,10 @@ has_searched bytes h es q ps counts count w0 w2 y z b o0 o1 e0 e2 stood are none
       report = λ i. record { matched = m i; expanded = e i; opened = searched.counted i; segments = length ps };
     }
 
-pub has_stopped : (bytes : List ℕ) (h : Header) (es : List JournalEntry) (q : Asked) (ps : List SegmentPlace) (w0 w : Option (List ℕ)) (z : Pending) (o0 o1 e0 e1 : ℕ) (stood : StandsFor bytes h es) → AreSegmentsOf es ps → z ≡ nothing_pending
-    → Stopped (names_in bytes h es stood.legal.held) q ps (all_placed (content_of stood.legal.held)) (state w0 z e0) w e1 o0 o1 → HasStopped h es stood.legal.held q w0 w o0 o1 e0 e1
-has_stopped bytes h es q ps w0 w z o0 o1 e0 e1 stood are none stopped =
-    let stops = stopped.halts [] (subst (λ p. WaitFor (names_in bytes h es stood.legal.held) p.pages []) (sym none) refl) in
+pub has_stopped : (bytes : List ℕ) (h : Header) (es : List JournalEntry) (q : Asked) (kept : KeptTypes) (ps : List SegmentPlace) (w0 w : Option (List ℕ)) (z : Pending) (o0 o1 e0 e1 : ℕ) (stood : StandsFor bytes h es) → AreSegmentsOf es ps → z ≡ nothing_pending
+    → Stopped (names_in bytes h es stood.legal.held kept) q ps (all_placed (content_of stood.legal.held)) (state w0 z e0) w e1 o0 o1 → HasStopped h es stood.legal.held q w0 w o0 o1 e0 e1
+has_stopped bytes h es q kept ps w0 w z o0 o1 e0 e1 stood are none stopped =
+    let stops = stopped.halts [] (subst (λ p. WaitFor (names_in bytes h es stood.legal.held kept) p.pages []) (sym none) refl) in
     record {
       printed = λ found are_found. subst (λ p. GrewByFront w0 w (p.gathered ++ lines_of found)) none (stops.front found are_found);
       all = ps;

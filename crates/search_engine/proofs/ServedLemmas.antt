@@ -1,14 +1,14 @@
 -- Pages that wait, and the words that are held for them.
 use Rattle.std.proofs.Common.{◌≡◌, ◌<◌, ◌∙◌, ℕ, List, [], ◌∷◌, ◌++◌, length, get_or, Option, All, ap, sym, subst}
 use Rattle.std.proofs.lemmas.List.Elements.{All-cons, All-head, All-nil, All-tail}
-use Rattle.word_places.specs.Held.{AreNumbered, Grow, HeldNames, RightTold, places_of}
+use Rattle.word_places.specs.Held.{AreNumbered, Grow, HeldNames, KeepsTypes, RightTold, places_of}
 use Rattle.search_meaning.specs.Scan.{Asked}
 use Rattle.search_walk.specs.Held.{Named}
 use Rattle.search_engine.specs.Served.{AreReadyPages, IsServed}
 use Rattle.search_walk.specs.Ready.{IsReadyPage, Serves}
 use Rattle.search_engine.specs.Waiting.{IsWorked, Page, Slotted, pages_of}
 use Rattle.search_engine.specs.Worked.{IsWorkedBy}
-use Rattle.search_walk.proofs.ReadyLemmas.{rows_grow}
+use Rattle.search_walk.proofs.ReadyLemmas.{kept_same, rows_grow}
 use Rattle.search_engine.proofs.SlotLemmas.{pages_kept}
 
 pages_grow : (n : Named) (q : Asked) (old new : HeldNames) (pages : List Page) → Serves n new → Grow old.records new.records → AreReadyPages n q old pages → AreReadyPages n q new pages
@@ -55,10 +55,10 @@ round_worked n q asked held by old new sent items pages same words long each wor
 
 -- ---- words of a share
 
-pub serves_taken : (n : Named) (all own new : HeldNames) → Serves n all → Serves n own → new.types ≡ all.types → places_of new.records ≡ places_of all.records → AreNumbered 0 new.records
+pub serves_taken : (n : Named) (all own new : HeldNames) → Serves n all → Serves n own → KeepsTypes all new → places_of new.records ≡ places_of all.records → AreNumbered 0 new.records
     → ((told : Option (List ℕ)) → RightTold told all.records → RightTold told own.records → RightTold told new.records) → Serves n new
-serves_taken n all own new whole part types places numbered right = record {
-  types = types ∙ whole.types;
+serves_taken n all own new whole part keeps places numbered right = record {
+  kept = kept_same all new keeps ∙ whole.kept;
   places = places ∙ whole.places;
   numbered = numbered;
   right = right n.told whole.right part.right;

@@ -135,7 +135,7 @@ pub(crate) fn search_fronts<R: Threads + Sync, D: SharedDisk, K: Sink, L: Ledger
     requires empty { batch.old.pages ≡ [] }
     requires scope { IsScope (named (D.Disk.state disk.old).seen held.old)
         crew.now.lane.query.now crew.now.lane.layouts.now
-        crew.now.lane.filter.now crew.now.lane.found.now }
+        crew.now.lane.asked.now crew.now.lane.found.now }
     requires is { crew.now.context.now ≡ scope (named (D.Disk.state disk.old).seen held.old)
         crew.now.lane.query.now crew.now.lane.files.now }
 

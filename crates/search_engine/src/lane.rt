@@ -24,7 +24,7 @@ use std::marker::{Brand, Model};
 use std::mem::swap;
 use std::sync::ledger::{Blank, Ledger};
 use step_count::Steps;
-use subquery_filter::Filter;
+use subquery_filter::AskedTypes;
 use word_places::HeldWords;
 
 /// What all lanes of a search go over, borrowed, as a [`Context`] does.
@@ -32,7 +32,7 @@ use word_places::HeldWords;
 pub(crate) struct LaneScope<'q> {
     pub(crate) query: &'q Query,
     pub(crate) layouts: &'q Layouts,
-    pub(crate) filter: &'q Filter,
+    pub(crate) asked: &'q AskedTypes,
     pub(crate) files: &'q [FileEntry],
     pub(crate) found: &'q [Option<u32>],
 }
@@ -51,7 +51,7 @@ fn search_into<P: Disk, L: Ledger, M: Ledger>(
 ) -> Result<LaneCounts, SearchRefusal>
     requires blanks { OpensFor one L.name L.parts × OpensFor two M.name M.parts }
     requires scope { IsScope (named (P.state part.old).seen first.now)
-        lane.query.now lane.layouts.now lane.filter.now lane.found.now }
+        lane.query.now lane.layouts.now lane.asked.now lane.found.now }
     requires serves { Serves (named (P.state part.old).seen first.now) held.old }
     requires empty { sink.old.text.items ≡ [] }
     ensures serves { IfOk result
@@ -66,7 +66,7 @@ fn search_into<P: Disk, L: Ledger, M: Ledger>(
     let context = Context::new(
         lane.query,
         lane.layouts,
-        lane.filter,
+        lane.asked,
         lane.files,
         lane.found,
         first,
@@ -131,7 +131,7 @@ impl<'q, P: Disk> Model for Lane<'q, P> {
 
     ghost invariant = { λ l. (length l.fronts.now ≤ 65536)
         × IsScope (named (P.state l.part).seen l.first.now)
-        l.scope.query.now l.scope.layouts.now l.scope.filter.now l.scope.found.now
+        l.scope.query.now l.scope.layouts.now l.scope.asked.now l.scope.found.now
         × OnOk l.answer (Serves (named (P.state l.part).seen l.first.now) l.held)
         × (l.told.opened ≤ length l.fronts.now)
         × ¬ IsErrOf l.answer SearchRefusal.SinkFault };
@@ -149,7 +149,7 @@ impl<'q, P: Disk> Lane<'q, P> {
     ) -> Lane<'q, P>
         requires few { length fronts.now ≤ 65536 }
         requires scope { IsScope (named (P.state part).seen first.now)
-            scope.query.now scope.layouts.now scope.filter.now scope.found.now }
+            scope.query.now scope.layouts.now scope.asked.now scope.found.now }
         requires serves { Serves (named (P.state part).seen first.now) held }
         ensures { result ≡ record {
           part = part;

@@ -30,7 +30,7 @@ pub(crate) fn lend_lanes<'q, D: SharedDisk>(
 ) -> Result<Vec<Lane<'q, D::Part>>, AllocError>
     requires none { none.now ≡ [] }
     requires scope { IsScope (named (D.Disk.state disk.old).seen first.now) lane.query.now
-        lane.layouts.now lane.filter.now lane.found.now }
+        lane.layouts.now lane.asked.now lane.found.now }
     requires serves { Serves (named (D.Disk.state disk.old).seen first.now) first.now }
     ensures lends { Lends (D.Disk.state disk.old) (D.Disk.state disk.new) }
     ensures fresh { IfOk result (λ v. All (IsFresh D.Part.state) v.items) }

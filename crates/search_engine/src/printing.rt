@@ -21,14 +21,14 @@ use std::alloc::AllocError;
 use std::sync::ledger::Ledger;
 use step_count::Steps;
 use subquery_filter::Verdict;
-use word_places::{HeldWords, rows_are_local};
+use word_places::{HeldWords, rows_are_local, rows_are_of_type};
 
 /// Of how many rows the words are looked at before they are written. Free to tune: 32 to 256 gain
 /// the same, fewer less.
 const AHEAD: u32 = 64;
 
-/// What rows that were decided are printed by: the query, the first log types cut into pieces, and
-/// the words that are held.
+/// What rows that were decided are printed by: the query, the first log types that are held, cut
+/// into pieces, and the words that are held.
 #[derive(Clone, Copy)]
 pub(crate) struct Printer<'q> {
     pub(crate) query: &'q Query,
@@ -40,7 +40,7 @@ impl<'q> Printer<'q> {
     /// What prints rows of a search by these words.
     pub(crate) fn of<D: Disk>(context: &Context<'q, D>, held: &'q HeldWords) -> Printer<'q>
         ensures query { result.query.now ≡ context.now.query }
-        ensures types { AreCut result.layouts.now context.now.names.types }
+        ensures types { AreCut result.layouts.now context.now.names.kept.texts }
         ensures held { result.held.now ≡ held.now }
     {
         Printer {
@@ -112,9 +112,10 @@ fn print_row<M: Ledger>(
         → (message : List ℕ) → ¬ IsCanonical n.version (row_of row.entry) n.types n.words message }
 {
     // What the pattern matches, the one that the search is planned over matches too; and a row
-    // whose words are held is written by these as by all words.
+    // whose log type and words are held is written by these as by all.
     wide_is_wider();
     rows_are_local();
+    rows_are_of_type();
     if is_rejected(verdict) {
         return Ok(());
     }

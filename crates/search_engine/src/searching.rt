@@ -66,12 +66,12 @@ fn search_opened<R: Threads + Sync, D: SharedDisk, K: Sink, L: Ledger, M: Ledger
     let Prepared { mut held, archive } = prepared;
     let context = archive.context(query, &held, disk);
     let names = archive.files.as_slice();
-    let found = archive.told.found.as_slice();
+    let found = archive.found.as_slice();
     let fronts = archive.segments.as_slice();
     let lane = LaneScope {
         query,
         layouts: &archive.layouts,
-        filter: &archive.told.filter,
+        asked: &archive.asked,
         files: names,
         found,
     };
@@ -95,9 +95,9 @@ fn search_opened<R: Threads + Sync, D: SharedDisk, K: Sink, L: Ledger, M: Ledger
 /// its file and its number in the file, by file and then by number. The pattern is one that
 /// [`read_pattern`](wild_match::read_pattern) read, and the places those of the disk.
 ///
-/// Log types are read before the segments, each record once. Words are read where they are wanted:
-/// all of them once, where some log type leaves the decision to its words or a word that is needed
-/// is a variable; and then with its record each word of a message that is written.
+/// Words and then log types are read before the segments, each record once: all words, where some
+/// word may bring what is looked for or a word that is needed is a variable. Later each word of a
+/// message that is written is read with its record.
 ///
 /// The `workers` are so many threads in all, each with a part of the disk. In a turn each reads and
 /// searches whole segments by itself, up to 65,536 rows or one segment; what they found is printed

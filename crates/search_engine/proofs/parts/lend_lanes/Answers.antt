@@ -10,7 +10,7 @@ loop-init g c = lent_none g.D.Part.Disk.state (g.D.Disk.state c.args.disk.now) _
 
 pub new-requires-clause-scope : goal.new-requires-clause-scope
 new-requires-clause-scope g c =
-    subst (λ x. IsScope (named x c.args.first.now) c.args.lane.query.now c.args.lane.layouts.now c.args.lane.filter.now c.args.lane.found.now) (sym (c.in-Some.ensures.part.seen ∙ c.loop.invariant.lends.rests.seen)) c.requires.scope
+    subst (λ x. IsScope (named x c.args.first.now) c.args.lane.query.now c.args.lane.layouts.now c.args.lane.asked.now c.args.lane.found.now) (sym (c.in-Some.ensures.part.seen ∙ c.loop.invariant.lends.rests.seen)) c.requires.scope
 
 pub new-requires-clause-serves : goal.new-requires-clause-serves
 new-requires-clause-serves g c =

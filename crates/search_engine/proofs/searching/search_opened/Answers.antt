@@ -43,7 +43,7 @@ search_fronts-requires-clause-empty g c = λ _ _. ap (λ (p : Pending). p.pages)
 pub search_fronts-requires-clause-scope : goal.search_fronts-requires-clause-scope
 search_fronts-requires-clause-scope g c = λ _ _.
     let p = c.in_ok-prepared.prepared in
-    subst (λ (l : List (Option ℕ)). IsScope (named (g.D.Disk.state c.of.new.disk).seen p.held) c.args.query.now p.archive.layouts p.archive.told.filter l) (sym c.as_slice-found.ensures.value) c.in_ok-prepared.ensures.ready
+    subst (λ (l : List (Option ℕ)). IsScope (named (g.D.Disk.state c.of.new.disk).seen p.held) c.args.query.now p.archive.layouts p.archive.asked l) (sym c.as_slice-found.ensures.value) c.in_ok-prepared.ensures.ready
 
 pub search_fronts-requires-clause-is : goal.search_fronts-requires-clause-is
 search_fronts-requires-clause-is g c = λ _ _.

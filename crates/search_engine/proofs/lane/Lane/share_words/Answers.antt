@@ -32,4 +32,4 @@ returns-in-Ok-clause-serves g c =
     let m : Named = (scope_of g.P.Disk.state c.args.self.now).names in
     let same : n ≡ m = ap (λ (l : LaneView g.row.P.Denot). (scope_of g.P.Disk.state l).names) c.self.view_is in
     let mine : Serves m c.swap.new.y = subst (λ (h : HeldNames). Serves m h) (sym c.swap.ensures.y_after) (subst (λ (k : Named). Serves k i.held) same own) in
-    serves_taken m c.args.all.now c.swap.new.y c.take_in.new.self c.requires.serves mine c.take_in.ensures.same.0 c.take_in.ensures.places c.take_in.ensures.numbered c.take_in.ensures.right
+    serves_taken m c.args.all.now c.swap.new.y c.take_in.new.self c.requires.serves mine c.take_in.ensures.same c.take_in.ensures.places c.take_in.ensures.numbered c.take_in.ensures.right

@@ -1,6 +1,7 @@
 use Rattle.std.proofs.Common.{◌≡◌, ◌∙◌, ℕ, List, All, ap, sym, subst, refl, rules}
 use Rattle.row_codec.specs.Laid.{AreCut}
 use Rattle.word_places.specs.Held.{HeldNames}
+use Rattle.word_places.specs.Kept.{KeptTypes}
 use Rattle.search_walk.specs.Held.{Named}
 use Rattle.search_meaning.specs.Scan.{Asked}
 use Rattle.search_engine.specs.Waiting.{IsWorked, Pending, WaitFor, pages_of}
@@ -11,7 +12,7 @@ use Rattle.search_engine.proofs.page_batch.PageBatch.run.Goals as goal
 
 pub match_chunk-requires : goal.match_chunk-requires
 match_chunk-requires g c =
-    record { types = subst (λ (ts : List (List ℕ)). AreCut c.of-printer.result.layouts.now ts) (sym (ap (λ (h : HeldNames). h.types) c.of-printer.ensures.held ∙ c.requires.served.serves.types)) c.of-printer.ensures.types }
+    record { types = subst (λ (ts : List (List ℕ)). AreCut c.of-printer.result.layouts.now ts) (sym (ap (λ (h : HeldNames). h.types) c.of-printer.ensures.held ∙ ap (λ (k : KeptTypes). k.texts) c.requires.served.serves.kept)) c.of-printer.ensures.types }
 
 pub returns-in_err-gather_all-clause-stopped : goal.returns-in_err-gather_all-clause-stopped
 returns-in_err-gather_all-clause-stopped g c =
