@@ -7,6 +7,7 @@ use Rattle.std.proofs.Math.ListN.{drop_of_length-le}
 use Rattle.column_store.specs.declared.row.Row.{Row}
 use Rattle.wild_match.specs.Matches.{Match}
 use Rattle.row_codec.specs.Means.{HasSpelling, IsCanonical, IsSpelling}
+use Rattle.row_codec.specs.Numbers.{numbers_of_row}
 use Rattle.row_codec.proofs.CanonicalLemmas.{rows_return}
 use Rattle.query_plan.specs.Laws.{IsPlain, WideIsWider}
 use Rattle.query_plan.specs.declared.pieces.Piece.{Piece}
@@ -15,7 +16,7 @@ use Rattle.subquery_filter.specs.Filter.{IsRowVerdict}
 use Rattle.subquery_filter.specs.declared.verdicts.Verdict.{Verdict}
 use Rattle.subquery_filter.specs.declared.verdicts.Verdict.TheVariants.{Certain, Rejected, Tried}
 use Rattle.word_places.specs.Held.{HeldNames, lends}
-use Rattle.word_places.specs.Local.{EncodingIsLocal, SpellingIsLocal}
+use Rattle.word_places.specs.Local.{Agree, EncodingIsLocal, EncodingIsOfType, NumbersAreOfType, SpellingIsLocal, SpellingIsOfType}
 use Rattle.search_walk.specs.declared.query.Judgement.{Judgement}
 use Rattle.search_walk.specs.declared.query.Judgement.TheVariants.{Found, Left, Tried as Expanded}
 use Rattle.search_walk.specs.Held.{AreRowsOf, Named}
@@ -25,7 +26,7 @@ use Rattle.printed_lines.specs.Lines.{Placed, numbered, placed}
 use Rattle.search_meaning.specs.Scan.{Asked, IsFound, IsInRange, IsTried}
 use Rattle.printed_lines.proofs.LineLemmas.{numbered_append}
 use Rattle.search_walk.proofs.RowLemmas.{in_range, next_row, none_left}
-use Rattle.search_walk.proofs.VerdictLemmas.{decided_inside, lent_canonical, lent_has, lent_spelling}
+use Rattle.search_walk.proofs.VerdictLemmas.{decided_inside, decided_open, lent_canonical, lent_has, lent_spelling}
 use Rattle.search_meaning.specs.Grouped.{IsExpanded}
 use Rattle.group_count.specs.Judged.{Judges}
 use Rattle.group_count.specs.StepsCounted.{Adds, Passes, Sofar, Stops, judged_more, judged_rows}
@@ -34,40 +35,56 @@ use Rattle.group_count.specs.StepsRows.{PastRows}
 
 -- ---- what was decided, by the words that are held
 
-own_verdict : (n : Named) (q : Asked) (held : HeldNames) (row : Row) (v : Verdict) → SpellingIsLocal → v ≢ Rejected → IsLent n q held row v
-    → IsRowVerdict (wide_pieces q.pattern) held.types (lends held.records) row v
-own_verdict n q held row Rejected local not lent = absurd (not refl)
-own_verdict n q held row Certain local not lent = λ text spelled.
-    lent.decided.1 text (local row n.types (lends held.records) n.words text (λ m at. sym (lent.agree not m at)) (lent_spelling n q held row Certain text lent spelled))
-own_verdict n q held row Tried local not lent = tt
+-- a row depends on no other log type than its own, and on no other words than those that it names
+pub record RowLaws : Type 0 where
+  pub numbers : NumbersAreOfType
+  pub spelling_of : SpellingIsOfType
+  pub encoding_of : EncodingIsOfType
+  pub spelling : SpellingIsLocal
+  pub encoding : EncodingIsLocal
 
-own_canonical : (n : Named) (q : Asked) (held : HeldNames) (row : Row) (v : Verdict) (message : List ℕ) → EncodingIsLocal → v ≢ Rejected → IsLent n q held row v → IsCanonical n.version row n.types n.words message
+own_agree : (n : Named) (q : Asked) (held : HeldNames) (row : Row) (v : Verdict) → RowLaws → v ≢ Rejected → IsLent n q held row v → Agree (numbers_of_row n.types row) n.words (lends held.records)
+own_agree n q held row v laws not lent =
+    subst (λ (l : List ℕ). Agree l n.words (lends held.records)) (laws.numbers row n.kept.texts n.types (decided_open n q row v not lent.decided)) (lent.agree not)
+
+own_spelling : (n : Named) (q : Asked) (held : HeldNames) (row : Row) (v : Verdict) (text : List ℕ) → RowLaws → v ≢ Rejected → IsLent n q held row v → IsSpelling row held.types (lends held.records) text → IsSpelling row n.types n.words text
+own_spelling n q held row v text laws not lent spelled =
+    laws.spelling row n.types (lends held.records) n.words text (λ m at. sym (own_agree n q held row v laws not lent m at)) (lent_spelling n q held row v text laws.spelling_of not lent spelled)
+
+own_verdict : (n : Named) (q : Asked) (held : HeldNames) (row : Row) (v : Verdict) → RowLaws → v ≢ Rejected → IsLent n q held row v
+    → IsRowVerdict (wide_pieces q.pattern) held.types (lends held.records) row v
+own_verdict n q held row Rejected laws not lent = absurd (not refl)
+own_verdict n q held row Certain laws not lent = λ text spelled. lent.decided.1 text (own_spelling n q held row Certain text laws not lent spelled)
+own_verdict n q held row Tried laws not lent = tt
+
+own_canonical : (n : Named) (q : Asked) (held : HeldNames) (row : Row) (v : Verdict) (message : List ℕ) → RowLaws → v ≢ Rejected → IsLent n q held row v → IsCanonical n.version row n.types n.words message
     → IsCanonical n.version row held.types (lends held.records) message
-own_canonical n q held row v message local not lent is =
-    subst (λ (ts : List (List ℕ)). IsCanonical n.version row ts (lends held.records) message) (sym lent.types) (lent_canonical n q held row v message local not lent is)
+own_canonical n q held row v message laws not lent is =
+    subst (λ (ts : List (List ℕ)). IsCanonical n.version row ts (lends held.records) message) (sym lent.types)
+    (laws.encoding_of n.version row n.types n.kept.texts (lends held.records) message (sym (decided_open n q row v not lent.decided)) (lent_canonical n q held row v message laws.numbers laws.encoding not lent is))
 
 lent_inside : (n : Named) (q : Asked) (held : HeldNames) (row : Row) (v : Verdict) (message : List ℕ) → v ≢ Rejected → IsLent n q held row v → IsCanonical n.version row n.types n.words message → IsInRange n.version q.range message
 lent_inside n q held row v message not lent is = in_range n.version q.range row n.types n.words message is (decided_inside n q row v not lent.decided)
 
 -- a row that is the encoding of no message by the words that are held is that of none
-pub none_stored : (n : Named) (q : Asked) (held : HeldNames) (row : Row) (v : Verdict) → EncodingIsLocal → v ≢ Rejected → ((version : ℕ) (message : List ℕ) → ¬ IsCanonical version row held.types (lends held.records) message)
+pub none_stored : (n : Named) (q : Asked) (held : HeldNames) (row : Row) (v : Verdict) → RowLaws → v ≢ Rejected → ((version : ℕ) (message : List ℕ) → ¬ IsCanonical version row held.types (lends held.records) message)
     → IsLent n q held row v → (message : List ℕ) → ¬ IsCanonical n.version row n.types n.words message
-none_stored n q held row v local not none lent message is = none n.version message (own_canonical n q held row v message local not lent is)
+none_stored n q held row v laws not none lent message is = none n.version message (own_canonical n q held row v message laws not lent is)
 
-pub none_written : (n : Named) (q : Asked) (held : HeldNames) (row : Row) (v : Verdict) → EncodingIsLocal → v ≢ Rejected → ¬ HasSpelling row held.types (lends held.records) → IsLent n q held row v → (message : List ℕ)
+pub none_written : (n : Named) (q : Asked) (held : HeldNames) (row : Row) (v : Verdict) → RowLaws → v ≢ Rejected → ¬ HasSpelling row held.types (lends held.records) → IsLent n q held row v → (message : List ℕ)
     → ¬ IsCanonical n.version row n.types n.words message
-none_written n q held row v local not none lent message is = none (lent_has n q held row v message local not lent is)
+none_written n q held row v laws not none lent message is = none (lent_has n q held row v message laws.numbers laws.encoding_of laws.encoding not lent is)
 
 -- a message that was written is the row's, and the pattern that the search is planned over matches it where that is certain
-pub wrote_message : (n : Named) (q : Asked) (held : HeldNames) (row : Row) (v : Verdict) (message text : List ℕ) → EncodingIsLocal → v ≢ Rejected → IsLent n q held row v → IsCanonical n.version row n.types n.words message
+pub wrote_message : (n : Named) (q : Asked) (held : HeldNames) (row : Row) (v : Verdict) (message text : List ℕ) → RowLaws → v ≢ Rejected → IsLent n q held row v → IsCanonical n.version row n.types n.words message
     → IsSpelling row held.types (lends held.records) text → text ≡ message
-wrote_message n q held row v message text local not lent is spelled =
-    rows_return n.version row n.types (lends held.records) message text (lent_canonical n q held row v message local not lent is) (lent_spelling n q held row v text lent spelled)
+wrote_message n q held row v message text laws not lent is spelled =
+    rows_return n.version row n.types (lends held.records) message text (lent_canonical n q held row v message laws.numbers laws.encoding not lent is) (lent_spelling n q held row v text laws.spelling_of not lent spelled)
 
-pub certain_matches : (n : Named) (q : Asked) (held : HeldNames) (row : Row) (v : Verdict) (text : List ℕ) → SpellingIsLocal → v ≡ Certain → v ≢ Rejected → IsLent n q held row v → IsSpelling row held.types (lends held.records) text
+pub certain_matches : (n : Named) (q : Asked) (held : HeldNames) (row : Row) (v : Verdict) (text : List ℕ) → RowLaws → v ≡ Certain → v ≢ Rejected → IsLent n q held row v → IsSpelling row held.types (lends held.records) text
     → Match (wide q.pattern) text
-certain_matches n q held row v text local is not lent spelled =
-    (subst (λ w. IsRowVerdict (wide_pieces q.pattern) held.types (lends held.records) row w) is (own_verdict n q held row v local not lent)) text spelled
+certain_matches n q held row v text laws is not lent spelled =
+    (subst (λ w. IsRowVerdict (wide_pieces q.pattern) held.types (lends held.records) row w) is (own_verdict n q held row v laws not lent)) text spelled
 
 module _ {T : Type 0} (counted : T → ℕ → List Row → Type 0) (n : Named) (q : Asked) where
   -- ---- one message
@@ -84,11 +101,11 @@ module _ {T : Type 0} (counted : T → ℕ → List Row → Type 0) (n : Named) 
       passed (placed name number message) a a (λ f. no (record { matched = wider q.pattern message f.matched; inside = f.inside })) (λ e. no e.tried) (adds_none counted a)
 
   -- one that was told by its row
-  module _ (held : HeldNames) (row : Row) (v : Verdict) (pieces : List Piece) (encoding : EncodingIsLocal) (spelling : SpellingIsLocal) (not : v ≢ Rejected) (same : pieces ≡ wide_pieces q.pattern) (plain : IsPlain q.pattern) (lent : IsLent n q held row v) where
+  module _ (held : HeldNames) (row : Row) (v : Verdict) (pieces : List Piece) (laws : RowLaws) (not : v ≢ Rejected) (same : pieces ≡ wide_pieces q.pattern) (plain : IsPlain q.pattern) (lent : IsLent n q held row v) where
     told_by : (found : Bool) (message : List ℕ) → Judges pieces held.types (lends held.records) row v found → IsCanonical n.version row n.types n.words message → IsTrue found ↔ Match q.pattern message
     told_by found message judges is =
         judges q.pattern n.version message same plain.0 plain.1
-        (subst (λ (ps : List Piece). IsRowVerdict ps held.types (lends held.records) row v) (sym same) (own_verdict n q held row v spelling not lent)) (own_canonical n q held row v message encoding not lent is)
+        (subst (λ (ps : List Piece). IsRowVerdict ps held.types (lends held.records) row v) (sym same) (own_verdict n q held row v laws not lent)) (own_canonical n q held row v message laws not lent is)
 
     pub stored_found : (found : Bool) (name : List ℕ) (number : ℕ) (message : List ℕ) (a b : Sofar T) → found ≡ true → Judges pieces held.types (lends held.records) row v found → IsCanonical n.version row n.types n.words message
         → Adds counted (row ∷ []) 0 a b → Passes counted n q (placed name number message ∷ []) a b
@@ -131,12 +148,12 @@ module _ {T : Type 0} (counted : T → ℕ → List Row → Type 0) (n : Named) 
     adds = adds;
   }
 
-  pub written_passes : (held : HeldNames) (row : Row) (v : Verdict) (name : List ℕ) (number : ℕ) (message text judged : List ℕ) (j : Judgement) (a b : Sofar T) → EncodingIsLocal → v ≢ Rejected → ¬ IsPlain q.pattern → IsLent n q held row v
+  pub written_passes : (held : HeldNames) (row : Row) (v : Verdict) (name : List ℕ) (number : ℕ) (message text judged : List ℕ) (j : Judgement) (a b : Sofar T) → RowLaws → v ≢ Rejected → ¬ IsPlain q.pattern → IsLent n q held row v
       → IsCanonical n.version row n.types n.words message → IsSpelling row held.types (lends held.records) text → judged ≡ text → JudgesText q judged j → Adds counted (judged_rows j row) (judged_more j) a b
       → Passes counted n q (placed name number message ∷ []) a b
-  written_passes held row v name number message text judged j a b encoding not other lent is spelled same judges adds =
+  written_passes held row v name number message text judged j a b laws not other lent is spelled same judges adds =
       judged_passes row name number message j a b other (lent_inside n q held row v message not lent is) is
-      (subst (λ l. JudgesText q l j) (same ∙ wrote_message n q held row v message text encoding not lent is spelled) judges) adds
+      (subst (λ l. JudgesText q l j) (same ∙ wrote_message n q held row v message text laws not lent is spelled) judges) adds
 
   -- ---- the rows of a page
 

@@ -1,10 +1,23 @@
 -- The groups of what was counted are those of the messages that are found.
-use Rattle.std.proofs.Common.{◌≡◌, nat_le, ◌↔◌, sym, ap, subst, ◌∙◌, ℕ, ℤ, ◌<◌, ◌≤◌, ◌^◌, pos, Bool, IsTrue, List, [], length, All, Option, None, Some, arith}
+use Rattle.std.proofs.Common.{◌≡◌, ◌++◌, false, nat_le, ◌↔◌, sym, ap, subst, ◌∙◌, ℕ, ℤ, ◌<◌, ◌≤◌, ◌^◌, pos, Bool, IsTrue, List, [], length, All, Option, None, Some, arith}
 use Rattle.std.specs.Prelude.{count_by, is_none}
 use Rattle.std.specs.Ordering.{int_cmp}
 use Rattle.std.proofs.lemmas.Bool.{le-leb, leb-true}
 use Rattle.std.proofs.lemmas.List.{length-map}
 use Rattle.std.proofs.lemmas.Slice.Zip.{AllZip-long}
+use Rattle.std.specs.List.{Contains}
+use Rattle.std.proofs.lemmas.List.Elements.{All-append, All-weaker, Contains-append_left}
+use Rattle.log_seams.specs.Disk.{DiskState}
+use Rattle.word_places.specs.declared.place.WordsPlace.{WordsPlace}
+use Rattle.word_places.specs.Held.{HeldNames, kept_of}
+use Rattle.word_places.specs.Kept.{AreKeptOf, KeptTypes}
+use Rattle.word_places.specs.Laws.{WordsAreOne}
+use Rattle.word_places.specs.Places.{AreWords, OfWords, SomeWords}
+use Rattle.word_places.specs.Reads.{IsOfWords, ReadsWords}
+use Rattle.archive_places.specs.Laws.{TypesStand}
+use Rattle.search_walk.specs.Prepared.{ReadsTexts}
+use Rattle.search_walk.proofs.JournalLemmas.{texts_only}
+use Rattle.search_walk.proofs.PagesReadLemmas.{two_added}
 use Rattle.record_format.specs.declared.header.Header.{Header}
 use Rattle.archive_meaning.specs.declared.entry.JournalEntry.{JournalEntry}
 use Rattle.archive_meaning.specs.Held.{Held, content_of}
@@ -13,7 +26,7 @@ use Rattle.archive_places.specs.declared.places.Places.{Places}
 use Rattle.archive_places.specs.Opened.{ArePlacesOf, OpensPlaces}
 use Rattle.column_store.specs.declared.row.Row.{Row}
 use Rattle.row_codec.specs.Means.{IsCanonical}
-use Rattle.search_meaning.specs.Journal.{OfJournal}
+use Rattle.search_meaning.specs.Journal.{MissesBarren, OfJournal, ReadsNoBarren}
 use Rattle.search_meaning.specs.Opened.{IsBarrenFor}
 use Rattle.printed_lines.specs.Lines.{Placed}
 use Rattle.search_meaning.specs.Scan.{Asked, IsFound, all_placed}
@@ -24,12 +37,12 @@ use Rattle.search_meaning.specs.declared.groups.GroupBy.TheVariants.{Minute, Sha
 use Rattle.search_meaning.specs.declared.groups.Grouped.{Grouped}
 use Rattle.search_meaning.specs.Grouped.{IsExpanded, IsGrouped, messages_of}
 use Rattle.group_count.specs.Grouped.{HasGrouped, HasStoppedCounting}
-use Rattle.search_meaning.specs.Groups.{AreGroups, by_key, by_moment, byte_order, stamped}
+use Rattle.search_meaning.specs.Groups.{AreGroups, by_moment, stamped}
 use Rattle.group_count.specs.Laws.{RowsHaveMinutes, RowsHaveTypes, minutes_of, numbers_of}
 use Rattle.group_count.specs.declared.counts.Counts.{Counts}
-use Rattle.group_count.specs.StepsArchive.{HasCounted, reported}
+use Rattle.group_count.specs.StepsArchive.{HasCounted, HoldsTypes, reported}
 use Rattle.group_count.specs.StepsCounted.{Sofar, sofar}
-use Rattle.group_count.specs.Tables.{AreMinutes, AreNumbered, AreTypes, MinuteState, TypeState, minute_at, texts_at}
+use Rattle.group_count.specs.Tables.{AreGroupsBy, AreMinutes, AreNumbered, AreTypes, LackTexts, MinuteState, TypeState, minute_at, texts_at}
 
 -- what follows for each journal that the places are of
 pub of_places : (seen : Option (List ℕ)) (a : Places) (P Q : Header → List JournalEntry → Held → Type 0) → OpensPlaces seen a
@@ -102,31 +115,31 @@ module _ {T : Type 0} (counted : T → ℕ → List Row → Type 0) (h : Header)
 abbrev pub counted_types : TypeState → ℕ → List Row → Type 0
 counted_types table types rows = AreTypes types table (numbers_of rows)
 
-module _ (law : RowsHaveTypes) (h : Header) (es : List JournalEntry) (held : Held) (q : Asked) (gone : Gone) (x y : Sofar TypeState) (o0 o1 : ℕ) (none : AreTypes (length gone.held.types) x.table [])
+module _ (law : RowsHaveTypes) (h : Header) (es : List JournalEntry) (held : Held) (q : Asked) (gone : Gone) (x y : Sofar TypeState) (o0 o1 : ℕ) (none : AreTypes (length held.types) x.table [])
     (has : HasCounted counted_types h es held q gone x y o0 o1) where
-  table_counts : AreTypes (length gone.held.types) y.table (numbers_of has.rows)
-  table_counts = has.adds.table (length gone.held.types) [] none
+  table_counts : AreTypes (length held.types) y.table (numbers_of has.rows)
+  table_counts = has.adds.table (length held.types) [] none
 
-  table_numbered : AreNumbered gone.held.types (numbers_of has.rows)
+  table_numbered : AreNumbered held.types (numbers_of has.rows)
   table_numbered =
       let few = rows_few counted_types h es held q gone x y o0 o1 has in
-      subst (λ types. AreNumbered types (numbers_of has.rows)) (sym has.types) (record {
+      record {
         few = omega (arith, few, length-map has.rows (λ (r : Row). r.log_type));
         within = (law h.version has.rows held.types held.words (messages_of has.found) has.are).1;
-      })
+      }
 
   -- a table that can give no groups is that of no journal
-  pub types_damaged : ((numbers : List ℕ) → AreTypes (length gone.held.types) y.table numbers → ¬ AreNumbered gone.held.types numbers) → ⊥
+  pub types_damaged : LackTexts held.types y.table → ⊥
   types_damaged never = never (numbers_of has.rows) table_counts table_numbered
 
   pub types_done : (g : Grouped) → x.matched ≡ 0 → x.expanded ≡ 0 → g.report ≡ record { matched = y.matched; expanded = y.expanded; opened = gone.opened; segments = gone.segments }
-      → ((numbers : List ℕ) → AreTypes (length gone.held.types) y.table numbers → AreNumbered gone.held.types numbers → AreGroups byte_order (texts_at gone.held.types numbers) (by_key g.groups)) → All (λ p. p.moment ≡ pos 0) g.groups → g.without ≡ 0
+      → AreGroupsBy held.types y.table g.groups → All (λ p. p.moment ≡ pos 0) g.groups → g.without ≡ 0
       → HasGrouped h es held q Shape g o0 o1 x.ticks y.ticks
   types_done g none_matched none_expanded report groups moments without =
       has_grouped counted_types h es held q gone x y o0 o1 has Shape g none_matched none_expanded report (record {
         texts = texts_at held.types (numbers_of has.rows);
         have = (law h.version has.rows held.types held.words (messages_of has.found) has.are).0;
-        are = subst (λ types. AreGroups byte_order (texts_at types (numbers_of has.rows)) (by_key g.groups)) has.types (groups (numbers_of has.rows) table_counts table_numbered);
+        are = groups (numbers_of has.rows) table_counts table_numbered;
         moments = moments;
         none = without;
       })
@@ -162,12 +175,70 @@ module _ (law : RowsHaveMinutes) (h : Header) (es : List JournalEntry) (held : H
 
 -- ---- of the journal that the bytes stand for
 
+-- what holds of the log types that stand at the places holds of a journal's
+pub types_journal : (seen : Option (List ℕ)) (a : Places) (places : List WordsPlace) (P : List (List ℕ) → Type 0) → TypesStand → places ≡ a.types → OpensPlaces seen a → OfWords seen places P → OfJournal seen (λ _ _ held. P held.types)
+types_journal None a places P law same opens has = tt
+types_journal (Some bytes) a places P law same opens has = λ h es stood.
+    has stood.legal.held.types (subst (λ (l : List WordsPlace). AreWords 0 l bytes stood.legal.held.types) (sym (same ∙ (opens h es stood).types)) (law bytes h es stood))
+
+-- ---- log types that were held, or read once more
+
+-- where none was left out they are those at the places
+pub by_kept : (seen : Option (List ℕ)) (places : List WordsPlace) (kept : KeptTypes) (P : List (List ℕ) → Type 0) → WordsAreOne → kept.left_out ≡ false → SomeWords seen places (λ texts. AreKeptOf texts kept) → P kept.texts → OfWords seen places P
+by_kept None places kept P one whole some has = tt
+by_kept (Some bytes) places kept P one whole some has = λ words are. subst P (some.2.whole whole ∙ one 0 places bytes some.0 words some.1 are) has
+
+-- and so are those that were read
+pub by_read : (seen : Option (List ℕ)) (places : List WordsPlace) (texts : List (List ℕ)) (P : List (List ℕ) → Type 0) → OfWords seen places (λ words. texts ≡ words) → P texts → OfWords seen places P
+by_read None places texts P same has = tt
+by_read (Some bytes) places texts P same has = λ words are. subst P (same words are) has
+
+pub by_none : (seen : Option (List ℕ)) (places : List WordsPlace) (P : List (List ℕ) → Type 0) → OfWords seen places (λ _. ⊥) → OfWords seen places P
+by_none None places P none = tt
+by_none (Some bytes) places P none = λ words are. absurd (none words are)
+
+-- a disk that was only read has the same log types
+pub kept_at : (seen later : Option (List ℕ)) (a : Places) (held : HeldNames) → later ≡ seen → HoldsTypes seen a held → SomeWords later held.type_places (λ texts. AreKeptOf texts (kept_of held))
+kept_at seen later a held same holds =
+    subst (λ x. SomeWords x held.type_places (λ texts. AreKeptOf texts (kept_of held))) (sym same)
+    (subst (λ (l : List WordsPlace). SomeWords seen l (λ texts. AreKeptOf texts (kept_of held))) (sym holds.places) holds.kept)
+
+both_journal : (seen : Option (List ℕ)) (P Q : Header → List JournalEntry → Held → Type 0) → OfJournal seen P → OfJournal seen Q → OfJournal seen (λ h es held. P h es held × Q h es held)
+both_journal None P Q one two = tt
+both_journal (Some bytes) P Q one two = λ h es stood. (one h es stood, two h es stood)
+
+-- the log types were read once more behind the walk
+pub types_read_again : (seen : Option (List ℕ)) (a : Places) (places : List WordsPlace) (q : Asked) (d0 d1 d2 : DiskState) → places ≡ a.types → OpensPlaces seen a → OfJournal seen (λ h es held. ReadsNoBarren h es held q d0.ranges d1.ranges) → ReadsWords places d1 d2
+    → OfJournal seen (λ h es held. ReadsNoBarren h es held q d0.ranges d2.ranges)
+types_read_again seen a places q d0 d1 d2 same opens before reads = joined seen before (texts_only seen a q d1 d2 opens (of_types reads))
+  where
+    of_types : ReadsWords places d1 d2 → ReadsTexts a d1 d2
+    of_types read = record {
+      more = read.more;
+      added = read.added;
+      within =
+          All-weaker (λ r. IsOfWords places r.0 r.1) (λ r. IsOfWords (a.types ++ a.words) r.0 r.1)
+          (λ r of. record { place = of.place; one = Contains-append_left a.types a.words of.place (subst (λ (l : List WordsPlace). Contains l of.place) same of.one); low = of.low; high = of.high }) read.more read.within;
+    }
+
+    joined : (told : Option (List ℕ)) → OfJournal told (λ h es held. ReadsNoBarren h es held q d0.ranges d1.ranges) → OfJournal told (λ h es held. ReadsNoBarren h es held q d1.ranges d2.ranges)
+        → OfJournal told (λ h es held. ReadsNoBarren h es held q d0.ranges d2.ranges)
+    joined None one two = tt
+    joined (Some bytes) one two = λ h es stood.
+        let x = one h es stood in
+        let y = two h es stood in
+        record {
+          more = x.more ++ y.more;
+          added = two_added d0.ranges d1.ranges d2.ranges x.more y.more x.added y.added;
+          each = All-append (λ r. MissesBarren h es stood.legal.held q r.0 r.1) x.more y.more x.each y.each;
+        }
+
 -- the places have as many log types as there are held
-types_none : (a : Places) (h : Header) (es : List JournalEntry) (held : Held) → ArePlacesOf a h es held → (gone : Gone) → gone.held.types ≡ held.types
-    → (table start : TypeState) → start ≡ table → AreTypes a.types_count table [] → AreTypes (length gone.held.types) start []
-types_none a h es held is gone types table start is_table none =
-    subst (λ (t : TypeState). AreTypes (length gone.held.types) t []) (sym is_table)
-    (subst (λ n. AreTypes n table []) (is.types_count ∙ ap (λ (l : List (List ℕ)). length l) (sym types)) none)
+types_none : (a : Places) (h : Header) (es : List JournalEntry) (held : Held) → ArePlacesOf a h es held
+    → (table start : TypeState) → start ≡ table → AreTypes a.types_count table [] → AreTypes (length held.types) start []
+types_none a h es held is table start is_table none =
+    subst (λ (t : TypeState). AreTypes (length held.types) t []) (sym is_table)
+    (subst (λ n. AreTypes n table []) is.types_count none)
 
 module _ (seen : Option (List ℕ)) (a : Places) (opens : OpensPlaces seen a) (q : Asked) (gone : Gone) (e0 e1 o0 o1 : ℕ) where
   pub all_stopped : {T : Type 0} (counted : T → ℕ → List Row → Type 0) (k m : Counts T) → OfJournal seen (λ h es held. HasCounted counted h es held q gone (sofar k e0) (sofar m e1) o0 o1)
@@ -176,19 +247,21 @@ module _ (seen : Option (List ℕ)) (a : Places) (opens : OpensPlaces seen a) (q
       of_places seen a (λ h es held. HasCounted counted h es held q gone (sofar k e0) (sofar m e1) o0 o1) (λ h es held. HasStoppedCounting h es held q o0 o1 e0 e1) opens
       (λ h es held is done. counted_stopped counted h es held q gone (sofar k e0) (sofar m e1) o0 o1 done) has
 
-  module _ (law : RowsHaveTypes) (table : TypeState) (k m : Counts TypeState) (is_table : k.table ≡ table) (none : AreTypes a.types_count table []) (has : OfJournal seen (λ h es held. HasCounted counted_types h es held q gone (sofar k e0) (sofar m e1) o0 o1)) where
-    pub all_types_damaged : ((numbers : List ℕ) → AreTypes (length gone.held.types) m.table numbers → ¬ AreNumbered gone.held.types numbers) → OfJournal seen (λ _ _ _. ⊥)
+  module _ (law : RowsHaveTypes) (stand : TypesStand) (places : List WordsPlace) (at : places ≡ a.types) (table : TypeState) (k m : Counts TypeState) (is_table : k.table ≡ table) (none : AreTypes a.types_count table [])
+      (has : OfJournal seen (λ h es held. HasCounted counted_types h es held q gone (sofar k e0) (sofar m e1) o0 o1)) where
+    pub all_types_damaged : OfWords seen places (λ texts. LackTexts texts m.table) → OfJournal seen (λ _ _ _. ⊥)
     all_types_damaged never =
-        of_places seen a (λ h es held. HasCounted counted_types h es held q gone (sofar k e0) (sofar m e1) o0 o1) (λ _ _ _. ⊥) opens
-        (λ h es held is done. types_damaged law h es held q gone (sofar k e0) (sofar m e1) o0 o1 (types_none a h es held is gone done.types table k.table is_table none) done never) has
+        of_places seen a (λ h es held. HasCounted counted_types h es held q gone (sofar k e0) (sofar m e1) o0 o1 × LackTexts held.types m.table) (λ _ _ _. ⊥) opens
+        (λ h es held is done. types_damaged law h es held q gone (sofar k e0) (sofar m e1) o0 o1 (types_none a h es held is table k.table is_table none) done.0 done.1)
+        (both_journal seen (λ h es held. HasCounted counted_types h es held q gone (sofar k e0) (sofar m e1) o0 o1) (λ _ _ held. LackTexts held.types m.table) has (types_journal seen a places (λ texts. LackTexts texts m.table) stand at opens never))
 
-    pub all_types : (g : Grouped) → k.matched ≡ 0 → k.expanded ≡ 0 → g.report ≡ reported m gone
-        → ((numbers : List ℕ) → AreTypes (length gone.held.types) m.table numbers → AreNumbered gone.held.types numbers → AreGroups byte_order (texts_at gone.held.types numbers) (by_key g.groups)) → All (λ p. p.moment ≡ pos 0) g.groups → g.without ≡ 0
+    pub all_types : (g : Grouped) → k.matched ≡ 0 → k.expanded ≡ 0 → g.report ≡ reported m gone → OfWords seen places (λ texts. AreGroupsBy texts m.table g.groups) → All (λ p. p.moment ≡ pos 0) g.groups → g.without ≡ 0
         → OfJournal seen (λ h es held. HasGrouped h es held q Shape g o0 o1 e0 e1)
     all_types g none_matched none_expanded report groups moments without =
-        of_places seen a (λ h es held. HasCounted counted_types h es held q gone (sofar k e0) (sofar m e1) o0 o1) (λ h es held. HasGrouped h es held q Shape g o0 o1 e0 e1) opens
+        of_places seen a (λ h es held. HasCounted counted_types h es held q gone (sofar k e0) (sofar m e1) o0 o1 × AreGroupsBy held.types m.table g.groups) (λ h es held. HasGrouped h es held q Shape g o0 o1 e0 e1) opens
         (λ h es held is done.
-        types_done law h es held q gone (sofar k e0) (sofar m e1) o0 o1 (types_none a h es held is gone done.types table k.table is_table none) done g none_matched none_expanded report groups moments without) has
+        types_done law h es held q gone (sofar k e0) (sofar m e1) o0 o1 (types_none a h es held is table k.table is_table none) done.0 g none_matched none_expanded report done.1 moments without)
+        (both_journal seen (λ h es held. HasCounted counted_types h es held q gone (sofar k e0) (sofar m e1) o0 o1) (λ _ _ held. AreGroupsBy held.types m.table g.groups) has (types_journal seen a places (λ texts. AreGroupsBy texts m.table g.groups) stand at opens groups))
 
   pub all_minutes : (law : RowsHaveMinutes) (table : MinuteState) (k m : Counts MinuteState) (g : Grouped) → k.table ≡ table → IsTrue table.micro ↔ (3 ≤ a.header.version) → AreMinutes table [] → k.matched ≡ 0 → k.expanded ≡ 0 → g.report ≡ reported m gone
       → ((keys : List (Option ℤ)) → AreMinutes m.table keys → length keys < 2 ^ 64 → AreGroups int_cmp (stamped keys) (by_moment g.groups)) → All (λ p. p.key ≡ []) g.groups

@@ -10,6 +10,10 @@ use Rattle.archive_places.specs.declared.places.Places.{Places}
 use Rattle.archive_places.specs.Fronts.{front_of_place}
 use Rattle.archive_places.specs.Laws.{HeadsStand, TypesStand, WordsStand}
 use Rattle.archive_places.specs.Opened.{OpensPlaces}
+use Rattle.word_places.specs.Held.{HeldNames, kept_of}
+use Rattle.word_places.specs.Kept.{AreKeptOf, KeptTypes}
+use Rattle.search_walk.specs.declared.prepared.Prepared.{Prepared}
+use Rattle.search_walk.specs.Prepared.{KeepsPlaces}
 use Rattle.search_walk.specs.Held.{AreRowsOf, Named, OfLeft, OfSegments}
 use Rattle.search_meaning.specs.Journal.{OfJournal}
 use Rattle.printed_lines.specs.Lines.{Placed, numbered}
@@ -18,12 +22,11 @@ use Rattle.search_walk.specs.Walked.{PastTold, Searched, SearchedFronts, Stopped
 use Rattle.search_walk.proofs.GroupLemmas.{content_small}
 use Rattle.search_walk.proofs.JournalLemmas.{Knows, of_journal}
 use Rattle.search_walk.proofs.PageLemmas.{left_all, past_page}
-use Rattle.search_walk.proofs.SegmentLemmas.{of_all}
 use Rattle.printed_lines.proofs.LineLemmas.{numbered_append}
 use Rattle.group_count.specs.declared.archive_counting.Gone.{Gone}
 use Rattle.group_count.specs.declared.counts.Counts.{Counts}
 use Rattle.group_count.specs.Grouped.{HasStoppedCounting}
-use Rattle.group_count.specs.StepsArchive.{HasCounted}
+use Rattle.group_count.specs.StepsArchive.{HasCounted, HoldsTypes}
 use Rattle.group_count.specs.StepsCounted.{Passes, Sofar, Stops, sofar}
 use Rattle.group_count.specs.StepsGoing.{stops_more, stops_same}
 
@@ -78,6 +81,13 @@ never_rose (inr most) = omega (arith, most)
 
 -- ---- an archive
 
+-- the log types that were held before the walk are held behind it
+pub held_types : (seen : Option (List ℕ)) (a : Places) (p : Prepared) (held : HeldNames) → kept_of held ≡ kept_of p.held → KeepsPlaces seen a p → HoldsTypes seen a held
+held_types seen a p held same keeps = record {
+  places = ap (λ (k : KeptTypes). k.places) same ∙ keeps.type_places;
+  kept = (keeps.types.0, keeps.types.1, subst (AreKeptOf keeps.types.0) (sym same) keeps.types.2);
+}
+
 module _ (seen later : Option (List ℕ)) (a : Places) (n : Named) (files : List FileEntry) (fronts : List SegmentFront) (types_law : TypesStand) (words_law : WordsStand) (heads_law : HeadsStand) (same_files : files ≡ a.files) (same_fronts : fronts ≡ a.segments)
     (opens : OpensPlaces seen a) (known : Knows seen a n) (same : later ≡ seen) where
   pub all_stopped : (q : Asked) (e0 e1 o0 o1 : ℕ) → StoppedFronts (λ l. Stops n.version q l e0 e1) later n files q fronts o0 o1 → OfJournal seen (λ h es held. HasStoppedCounting h es held q o0 o1 e0 e1)
@@ -86,32 +96,28 @@ module _ (seen later : Option (List ℕ)) (a : Places) (n : Named) (files : List
       (λ l is. subst (λ s. OfSegments s n files l (λ _ all. Stopped (λ x. Stops n.version q x e0 e1) n q l all o0 o1)) same (stopped l is))
       (λ bytes h es stood is has. record { all = is.ordered; are_all = record { are = is.are; sorted = is.sorted }; opens = has.most; expands = has.halts })
 
-  pub all_counted : {T : Type 0} (counted : T → ℕ → List Row → Type 0) (q : Asked) (gone : Gone) (count : ℕ) (x y : Sofar T) (o0 o1 : ℕ) → gone.held.types ≡ n.types → gone.opened ≡ count → gone.segments ≡ length fronts
+  pub all_counted : {T : Type 0} (counted : T → ℕ → List Row → Type 0) (q : Asked) (gone : Gone) (count : ℕ) (x y : Sofar T) (o0 o1 : ℕ) → gone.opened ≡ count → gone.segments ≡ length fronts
       → SearchedFronts (λ l. Passes counted n q l x y) later n files q fronts o0 o1 count → OfJournal seen (λ h es held. HasCounted counted h es held q gone x y o0 o1)
-  all_counted counted q gone count x y o0 o1 types opened segments searched =
-      of_journal seen a n files fronts (λ m l _ all. (gone.held.types ≡ m.types) × Searched (λ z. Passes counted m q z x y) m q l all o0 o1 count) (λ h es held. HasCounted counted h es held q gone x y o0 o1)
+  all_counted counted q gone count x y o0 o1 opened segments searched =
+      of_journal seen a n files fronts (λ m l _ all. Searched (λ z. Passes counted m q z x y) m q l all o0 o1 count) (λ h es held. HasCounted counted h es held q gone x y o0 o1)
       types_law words_law heads_law same_files same_fronts opens known
-      (λ l is. subst (λ s. OfSegments s n files l (λ _ all. (gone.held.types ≡ n.types) × Searched (λ z. Passes counted n q z x y) n q l all o0 o1 count)) same
-      (of_all later n files l (λ _ all. Searched (λ z. Passes counted n q z x y) n q l all o0 o1 count) (λ _ all. (gone.held.types ≡ n.types) × Searched (λ z. Passes counted n q z x y) n q l all o0 o1 count)
-      (λ bytes all has. (types, has)) (searched l is)))
+      (λ l is. subst (λ s. OfSegments s n files l (λ _ all. Searched (λ z. Passes counted n q z x y) n q l all o0 o1 count)) same (searched l is))
       (λ bytes h es stood is has.
       let long : length is.ordered ≡ length fronts = sym (length-map is.ordered front_of_place) ∙ ap (λ (l : List SegmentFront). length l) (sym is.segments ∙ sym same_fronts) in
-      let walked = has.1 in
       record {
-        found = walked.reaches.found;
-        expansions = walked.reaches.expansions;
-        rows = walked.reaches.rows;
+        found = has.reaches.found;
+        expansions = has.reaches.expansions;
+        rows = has.reaches.rows;
         all = is.ordered;
-        segments = walked.opened;
+        segments = has.opened;
         are_all = record { are = is.are; sorted = is.sorted };
-        are_found = walked.reaches.are_found;
-        are_expanded = walked.reaches.are_expanded;
-        are_opened = walked.are_opened;
+        are_found = has.reaches.are_found;
+        are_expanded = has.reaches.are_expanded;
+        are_opened = has.are_opened;
         few = content_small bytes h es stood;
-        are = walked.reaches.are;
-        adds = walked.reaches.adds;
-        types = has.0;
-        opens = walked.ticked;
-        opened_count = opened ∙ walked.counted;
+        are = has.reaches.are;
+        adds = has.reaches.adds;
+        opens = has.ticked;
+        opened_count = opened ∙ has.counted;
         segment_count = segments ∙ sym long;
       })

@@ -7,7 +7,8 @@ use Rattle.std.specs.Map.{lookup}
 use Rattle.std.specs.Int.{int_rem_euclid, saturate_signed, w64}
 use Rattle.std.specs.declared.cmp.Ordering.{Ordering}
 use Rattle.std.specs.Ordering.{int_cmp, is_eq}
-use Rattle.search_meaning.specs.Groups.{byte_order}
+use Rattle.search_meaning.specs.declared.groups.Group.{Group}
+use Rattle.search_meaning.specs.Groups.{AreGroups, byte_order, by_key}
 
 -- each place of the counts has how often its number stands among the numbers, unless they are very many
 abbrev pub AreCounts : List ℕ → List ℕ → Type 0
@@ -37,6 +38,16 @@ pub record AreNumbered (texts : List (List ℕ)) (numbers : List ℕ) : Type 0 w
 -- the texts of the numbers
 abbrev pub texts_at : List (List ℕ) → List ℕ → List (List ℕ)
 texts_at texts numbers = map (λ n. slice_index_or texts n []) numbers
+
+-- each of these texts is grouped that was counted by its number
+abbrev pub AreGroupsBy : List (List ℕ) → TypeState → List Group → Type 0
+AreGroupsBy texts table groups =
+    (numbers : List ℕ) → AreTypes (length texts) table numbers → AreNumbered texts numbers
+    → AreGroups byte_order (texts_at texts numbers) (by_key groups)
+
+-- a number was counted that has none of these texts, or more of them than can be counted
+abbrev pub LackTexts : List (List ℕ) → TypeState → Type 0
+LackTexts texts table = (numbers : List ℕ) → AreTypes (length texts) table numbers → ¬ AreNumbered texts numbers
 
 -- a number that is not 0
 abbrev pub some_of : ℕ → Option ℕ

@@ -2,9 +2,9 @@
 ghost use Rattle.std.specs.Prelude.{IfOk, OnErr, IsErrOf};
 ghost use Rattle.log_seams.specs.Disk.{Rests};
 ghost use Rattle.log_seams.specs.Outside.{CountsOf};
-ghost use Rattle.search_meaning.specs.Journal.{OfJournal, ReadsNoBarren};
-ghost use Rattle.group_count.specs.Grouped.{HasStoppedCounting};
-ghost use Rattle.group_count.specs.StepsArchive.{HasCounted};
+ghost use Rattle.search_meaning.specs.Journal.{OfJournal};
+ghost use Rattle.group_count.specs.Grouped.{IsNoJournal, ReadsAside, StopsJournal};
+ghost use Rattle.group_count.specs.StepsArchive.{HasCounted, HoldsTypes};
 ghost use Rattle.group_count.specs.StepsCounted.{sofar};
 ghost use Rattle.group_count.specs.StepsServed.{MayCount};
 
@@ -21,7 +21,7 @@ use word_places::HeldWords;
 /// What a count has gone over.
 #[derive(Drop)]
 pub(crate) struct Gone {
-    /// The log types, and the words that were read.
+    /// The log types that were left, and the words that were read.
     pub(crate) held: HeldWords,
     /// How many segments were opened.
     pub(crate) opened: u64,
@@ -42,20 +42,18 @@ pub(crate) fn count_archive<D: Disk, T: RowTable, L: Ledger, M: Ledger>(
 
     // what stays
     ensures rests { Rests (D.state disk.old) (D.state disk.new) }
-    ensures reads { OfJournal (D.state disk.old).seen (λ h es held. ReadsNoBarren h es held
-        query.now (D.state disk.old).ranges (D.state disk.new).ranges) }
+    ensures reads { ReadsAside (D.state disk.old) (D.state disk.new) query.now }
 
     // by the answer
+    ensures held { IfOk result (λ gone. HoldsTypes (D.state disk.old).seen places gone.held) }
     ensures done { IfOk result (λ gone. OfJournal (D.state disk.old).seen (λ h es held. HasCounted
         T.counted h es held query.now gone (sofar counter.old.counts expanded.old)
         (sofar counter.new.counts expanded.new) opened.old opened.new)) }
-    ensures stopped { OnErr result (OfJournal (D.state disk.old).seen (λ h es held.
-        HasStoppedCounting h es held query.now
-        opened.old opened.new expanded.old expanded.new)) }
+    ensures stopped { OnErr result (StopsJournal (D.state disk.old).seen query.now
+        opened.old opened.new expanded.old expanded.new) }
 
     // causes
-    ensures damaged { IsErrOf result SearchRefusal.Damaged
-        → OfJournal (D.state disk.old).seen (λ _ _ _. ⊥) }
+    ensures damaged { IsErrOf result SearchRefusal.Damaged → IsNoJournal (D.state disk.old).seen }
     ensures disk_counts { CountsOf SearchRefusal.DiskFault
         (D.state disk.old).faults (D.state disk.new).faults result }
     ensures sink { ¬ IsErrOf result SearchRefusal.SinkFault }

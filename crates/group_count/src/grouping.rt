@@ -6,11 +6,15 @@ ghost use Rattle.log_seams.specs.Outside.{CountsOf};
 ghost use Rattle.query_plan.specs.Laws.{IsSearched};
 ghost use Rattle.archive_places.specs.Opened.{ArePlacesOrdered, OpensPlaces};
 ghost use Rattle.search_meaning.specs.Journal.{OfJournal, ReadsNoBarren, asked};
-ghost use Rattle.group_count.specs.Grouped.{HasGrouped, HasStoppedCounting};
-ghost use Rattle.search_meaning.specs.Groups.{AreGroups, by_key, by_moment, byte_order, stamped};
+ghost use Rattle.word_places.specs.Held.{kept_of};
+ghost use Rattle.word_places.specs.Kept.{AreKeptOf};
+ghost use Rattle.word_places.specs.Places.{AreInOrder, OfWords, SomeWords};
+ghost use Rattle.word_places.specs.Reads.{ReadsWords};
+ghost use Rattle.group_count.specs.Grouped.{GroupsJournal, HasGrouped, HasStoppedCounting, IsNoJournal, ReadsAside, StopsJournal};
+ghost use Rattle.search_meaning.specs.Groups.{AreGroups, by_moment, stamped};
 ghost use Rattle.group_count.specs.StepsArchive.{reported};
 ghost use Rattle.group_count.specs.StepsServed.{MayCount};
-ghost use Rattle.group_count.specs.Tables.{AreMinutes, AreNumbered, AreTypes, texts_at};
+ghost use Rattle.group_count.specs.Tables.{AreGroupsBy, AreMinutes, LackTexts};
 
 use crate::archive_counting::{Gone, count_archive};
 use crate::counts::Counts;
@@ -20,7 +24,7 @@ use crate::page_counter::PageCounter;
 use crate::refusal::TableRefusal;
 use crate::types::TypeTable;
 use crate::way::{Way, way_of};
-use archive_places::Places;
+use archive_places::{Places, types_stand};
 use column_store::Range;
 use log_seams::Disk;
 use search_meaning::{GroupBy, GroupReport, Grouped};
@@ -29,6 +33,7 @@ use std::alloc::{AllocError, Global};
 use std::sync::ledger::Ledger;
 use step_count::Steps;
 use wild_match::Pattern;
+use word_places::{TypeTexts, words_are_one};
 
 /// The counts of a count's work.
 fn report_of<T>(counts: &Counts<T>, gone: &Gone) -> GroupReport
@@ -42,25 +47,68 @@ fn report_of<T>(counts: &Counts<T>, gone: &Gone) -> GroupReport
     }
 }
 
-/// The groups of what was counted by log types.
-fn types_of(alloc: Global, counts: &Counts<TypeTable>, gone: &Gone) -> Result<Grouped, TableRefusal>
-    ensures groups { IfOk result (λ g. (numbers : List ℕ)
-        → AreTypes (length gone.now.held.types) counts.now.table numbers
-        → AreNumbered gone.now.held.types numbers
-        → AreGroups byte_order (texts_at gone.now.held.types numbers) (by_key g.groups)) }
+/// The groups of what was counted by log types that have these texts.
+fn types_by(
+    alloc: Global,
+    counts: &Counts<TypeTable>,
+    gone: &Gone,
+    types: &TypeTexts,
+) -> Result<Grouped, TableRefusal>
+    ensures groups { IfOk result (λ g. AreGroupsBy types.now.texts counts.now.table g.groups) }
     ensures moments { IfOk result (λ g. All (λ p. p.moment ≡ pos 0) g.groups) }
     ensures without { IfOk result (λ g. g.without ≡ 0) }
     ensures report { IfOk result (λ g. g.report ≡ reported counts.now gone.now) }
-    ensures damaged { IsErrOf result TableRefusal.Damaged → (numbers : List ℕ)
-        → AreTypes (length gone.now.held.types) counts.now.table numbers
-        → ¬ AreNumbered gone.now.held.types numbers }
+    ensures damaged { IsErrOf result TableRefusal.Damaged
+        → LackTexts types.now.texts counts.now.table }
 {
-    let groups = counts.table.groups(alloc, &gone.held)?;
+    let groups = counts.table.groups(alloc, types)?;
     Ok(Grouped {
         groups,
         without: 0,
         report: report_of(counts, gone),
     })
+}
+
+/// The groups of what was counted by log types. Where some of these were left out, all of them are
+/// read once more.
+fn types_of<D: Disk>(
+    alloc: Global,
+    counts: &Counts<TypeTable>,
+    gone: &Gone,
+    disk: &mut D,
+) -> Result<Grouped, SearchRefusal>
+    requires order { AreInOrder 0 gone.now.held.type_places }
+    requires kept { SomeWords (D.state disk.old).seen gone.now.held.type_places
+        (λ texts. AreKeptOf texts (kept_of gone.now.held)) }
+
+    // what stays
+    ensures rests { Rests (D.state disk.old) (D.state disk.new) }
+    ensures reads { ReadsWords gone.now.held.type_places (D.state disk.old) (D.state disk.new) }
+
+    // by the answer
+    ensures groups { IfOk result (λ g. OfWords (D.state disk.old).seen
+        gone.now.held.type_places (λ texts. AreGroupsBy texts counts.now.table g.groups)) }
+    ensures moments { IfOk result (λ g. All (λ p. p.moment ≡ pos 0) g.groups) }
+    ensures without { IfOk result (λ g. g.without ≡ 0) }
+    ensures report { IfOk result (λ g. g.report ≡ reported counts.now gone.now) }
+
+    // causes
+    ensures damaged { IsErrOf result SearchRefusal.Damaged → OfWords (D.state disk.old).seen
+        gone.now.held.type_places (λ texts. LackTexts texts counts.now.table) }
+    ensures disk_counts { CountsOf SearchRefusal.DiskFault
+        (D.state disk.old).faults (D.state disk.new).faults result }
+    ensures sink { ¬ IsErrOf result SearchRefusal.SinkFault }
+{
+    // Texts that stand at the same places are the same.
+    words_are_one();
+    let kept = gone.held.kept();
+    if kept.left_out() {
+        let whole = TypeTexts::read(alloc, disk, kept.places())?;
+        let grouped = types_by(alloc, counts, gone, &whole)?;
+        return Ok(grouped);
+    }
+    let grouped = types_by(alloc, counts, gone, kept)?;
+    Ok(grouped)
 }
 
 /// The groups of what was counted by minutes.
@@ -105,30 +153,28 @@ fn group_types<D: Disk, L: Ledger, M: Ledger>(
 
     // what stays
     ensures rests { Rests (D.state disk.old) (D.state disk.new) }
-    ensures reads { OfJournal (D.state disk.old).seen (λ h es held. ReadsNoBarren h es held
-        query.now (D.state disk.old).ranges (D.state disk.new).ranges) }
+    ensures reads { ReadsAside (D.state disk.old) (D.state disk.new) query.now }
 
     // by the answer
-    ensures done { IfOk result (λ g. OfJournal (D.state disk.old).seen (λ h es held. HasGrouped
-        h es held query.now GroupBy.Shape g
-        opened.old opened.new expanded.old expanded.new)) }
-    ensures stopped { OnErr result (OfJournal (D.state disk.old).seen (λ h es held.
-        HasStoppedCounting h es held query.now
-        opened.old opened.new expanded.old expanded.new)) }
+    ensures done { IfOk result (λ g. GroupsJournal (D.state disk.old).seen query.now GroupBy.Shape g
+        opened.old opened.new expanded.old expanded.new) }
+    ensures stopped { OnErr result (StopsJournal (D.state disk.old).seen query.now
+        opened.old opened.new expanded.old expanded.new) }
 
     // causes
-    ensures damaged { IsErrOf result SearchRefusal.Damaged
-        → OfJournal (D.state disk.old).seen (λ _ _ _. ⊥) }
+    ensures damaged { IsErrOf result SearchRefusal.Damaged → IsNoJournal (D.state disk.old).seen }
     ensures disk_counts { CountsOf SearchRefusal.DiskFault
         (D.state disk.old).faults (D.state disk.new).faults result }
     ensures sink { ¬ IsErrOf result SearchRefusal.SinkFault }
 {
-    // The log types of rows are those of the messages that they are the encodings of.
+    // The log types of rows are those of the messages that they are the encodings of, and those of
+    // a journal stand where its places say.
     rows_have_keys();
+    types_stand();
     let table = TypeTable::new(alloc, places.types_count);
     let mut counter = PageCounter::new(alloc, way, table);
     let gone = count_archive(query, places, disk, &mut counter, opened, expanded)?;
-    let grouped = types_of(alloc, &counter.counts, &gone)?;
+    let grouped = types_of(alloc, &counter.counts, &gone, disk)?;
     Ok(grouped)
 }
 
@@ -146,20 +192,16 @@ fn group_minutes<D: Disk, L: Ledger, M: Ledger>(
 
     // what stays
     ensures rests { Rests (D.state disk.old) (D.state disk.new) }
-    ensures reads { OfJournal (D.state disk.old).seen (λ h es held. ReadsNoBarren h es held
-        query.now (D.state disk.old).ranges (D.state disk.new).ranges) }
+    ensures reads { ReadsAside (D.state disk.old) (D.state disk.new) query.now }
 
     // by the answer
-    ensures done { IfOk result (λ g. OfJournal (D.state disk.old).seen (λ h es held. HasGrouped
-        h es held query.now GroupBy.Minute g
-        opened.old opened.new expanded.old expanded.new)) }
-    ensures stopped { OnErr result (OfJournal (D.state disk.old).seen (λ h es held.
-        HasStoppedCounting h es held query.now
-        opened.old opened.new expanded.old expanded.new)) }
+    ensures done { IfOk result (λ g. GroupsJournal (D.state disk.old).seen query.now GroupBy.Minute g
+        opened.old opened.new expanded.old expanded.new) }
+    ensures stopped { OnErr result (StopsJournal (D.state disk.old).seen query.now
+        opened.old opened.new expanded.old expanded.new) }
 
     // causes
-    ensures damaged { IsErrOf result SearchRefusal.Damaged
-        → OfJournal (D.state disk.old).seen (λ _ _ _. ⊥) }
+    ensures damaged { IsErrOf result SearchRefusal.Damaged → IsNoJournal (D.state disk.old).seen }
     ensures disk_counts { CountsOf SearchRefusal.DiskFault
         (D.state disk.old).faults (D.state disk.new).faults result }
     ensures sink { ¬ IsErrOf result SearchRefusal.SinkFault }
@@ -189,19 +231,16 @@ fn group_found<D: Disk, L: Ledger, M: Ledger>(
 
     // what stays
     ensures rests { Rests (D.state disk.old) (D.state disk.new) }
-    ensures reads { OfJournal (D.state disk.old).seen (λ h es held. ReadsNoBarren h es held
-        query.now (D.state disk.old).ranges (D.state disk.new).ranges) }
+    ensures reads { ReadsAside (D.state disk.old) (D.state disk.new) query.now }
 
     // by the answer
-    ensures done { IfOk result (λ g. OfJournal (D.state disk.old).seen (λ h es held. HasGrouped
-        h es held query.now by g opened.old opened.new expanded.old expanded.new)) }
-    ensures stopped { OnErr result (OfJournal (D.state disk.old).seen (λ h es held.
-        HasStoppedCounting h es held query.now
-        opened.old opened.new expanded.old expanded.new)) }
+    ensures done { IfOk result (λ g. GroupsJournal (D.state disk.old).seen query.now by g
+        opened.old opened.new expanded.old expanded.new) }
+    ensures stopped { OnErr result (StopsJournal (D.state disk.old).seen query.now
+        opened.old opened.new expanded.old expanded.new) }
 
     // causes
-    ensures damaged { IsErrOf result SearchRefusal.Damaged
-        → OfJournal (D.state disk.old).seen (λ _ _ _. ⊥) }
+    ensures damaged { IsErrOf result SearchRefusal.Damaged → IsNoJournal (D.state disk.old).seen }
     ensures disk_counts { CountsOf SearchRefusal.DiskFault
         (D.state disk.old).faults (D.state disk.new).faults result }
     ensures sink { ¬ IsErrOf result SearchRefusal.SinkFault }

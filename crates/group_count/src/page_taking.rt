@@ -2,6 +2,7 @@
 ghost use Rattle.std.specs.Prelude.{◌≡◌, ◌∷◌, [], IfOk, OnErr, IsErrOf};
 ghost use Rattle.log_seams.specs.Disk.{Rests};
 ghost use Rattle.log_seams.specs.Outside.{CountsOf};
+ghost use Rattle.word_places.specs.Held.{kept_of};
 ghost use Rattle.search_walk.specs.Opened.{NoFronts, ReadsFronts};
 ghost use Rattle.search_walk.specs.Walked.{SearchedFronts, StoppedFronts};
 ghost use Rattle.group_count.specs.StepsCounted.{Passes, Stops, sofar};
@@ -116,7 +117,7 @@ pub(crate) fn count_segments<D: Disk, T: RowTable, L: Ledger, M: Ledger>(
     ensures rests { Rests (D.state disk.old) (D.state disk.new) }
     ensures reads { ReadsFronts (D.state disk.old) (D.state disk.new)
         context.now.names context.now.files context.now.query fronts.now }
-    ensures types { IfOk result (λ _. held.new.types ≡ context.now.names.types) }
+    ensures kept { IfOk result (λ _. kept_of held.new ≡ context.now.names.kept) }
 
     // by the answer
     ensures done { IfOk result (λ count. SearchedFronts

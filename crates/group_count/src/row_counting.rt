@@ -22,7 +22,7 @@ use std::alloc::AllocError;
 use std::sync::ledger::Ledger;
 use step_count::Steps;
 use subquery_filter::Verdict;
-use word_places::{HeldWords, rows_are_local};
+use word_places::{HeldWords, rows_are_local, rows_are_of_type};
 
 /// Counts a row whose message is found.
 fn count_found<T: RowTable>(row: RowRef<'_>, counts: &mut Counts<T>) -> Result<(), AllocError>
@@ -54,9 +54,10 @@ fn count_stored<T: RowTable>(
         → ¬ IsCanonical n.version (row_of row.entry) n.types n.words message }
 {
     // What the pattern matches, the one that the search is planned over matches too; and a row
-    // whose words are held means by these what it means by all words.
+    // whose log type and words are held means by these what it means by all.
     wide_is_wider();
     rows_are_local();
+    rows_are_of_type();
     if is_rejected(verdict) {
         return Ok(());
     }
@@ -125,9 +126,10 @@ fn count_written<T: RowTable, M: Ledger>(
         → ¬ IsCanonical n.version (row_of row.entry) n.types n.words message }
 {
     // What the pattern matches, the one that the search is planned over matches too; and a row
-    // whose words are held is written by these as by all words.
+    // whose log type and words are held is written by these as by all.
     wide_is_wider();
     rows_are_local();
+    rows_are_of_type();
     if is_rejected(verdict) {
         return Ok(());
     }

@@ -8,31 +8,31 @@ ghost use Rattle.group_count.specs.Tables.{AreCounts, AreNumbered, IsTextTally, 
 use crate::refusal::TableRefusal;
 use crate::tally::add_to;
 use plain_list::Text;
-use row_codec::Names;
 use search_meaning::{Group, GroupList};
 use std::alloc::{AllocError, Global};
 use std::collections::BTreeMap;
+use word_places::TypeTexts;
 
 /// Counts the text of a log type so many times more.
-fn add_text<'a, N: Names>(
-    names: &'a N,
+fn add_text<'a>(
+    types: &'a TypeTexts,
     number: u32,
     more: u64,
     tally: &mut BTreeMap<&'a [u8], u64>,
 ) -> Result<(), TableRefusal>
     ensures added { OnOk result ((often : List ℕ → ℕ) → ((q : List ℕ) → often q
-        + cond (is_eq (byte_order (slice_index_or (N.types names.now) number []) q)) more 0
+        + cond (is_eq (byte_order (slice_index_or types.now.texts number []) q)) more 0
         < 2 ^ 64)
         → IsTextTally tally.old often
         → IsTextTally tally.new (λ q. often q
-        + cond (is_eq (byte_order (slice_index_or (N.types names.now) number []) q)) more 0)) }
+        + cond (is_eq (byte_order (slice_index_or types.now.texts number []) q)) more 0)) }
     ensures some { IsErrOf result TableRefusal.Damaged → 0 < more }
-    ensures none { IsErrOf result TableRefusal.Damaged → length (N.types names.now) ≤ number }
+    ensures none { IsErrOf result TableRefusal.Damaged → length types.now.texts ≤ number }
 {
     if more == 0 {
         return Ok(());
     }
-    let Some(text) = names.type_text(number) else {
+    let Some(text) = types.text_of(number) else {
         return Err(TableRefusal::Damaged);
     };
     add_to(tally, text, more)?;
@@ -40,21 +40,21 @@ fn add_text<'a, N: Names>(
 }
 
 /// Counts the texts of log types, each as often as its numbers were.
-pub(crate) fn tally_texts<'a, N: Names>(
+pub(crate) fn tally_texts<'a>(
     counts: &[u64],
-    names: &'a N,
+    types: &'a TypeTexts,
     tally: &mut BTreeMap<&'a [u8], u64>,
 ) -> Result<(), TableRefusal>
     requires few { length counts.now ≤ 2 ^ 32 }
     requires nothing { IsEmpty tally.old }
     ensures tally { OnOk result ((numbers : List ℕ) → AreCounts counts.now numbers
-        → AreNumbered (N.types names.now) numbers → IsTextTally tally.new
-        (λ q. how_often byte_order q (texts_at (N.types names.now) numbers))) }
+        → AreNumbered types.now.texts numbers → IsTextTally tally.new
+        (λ q. how_often byte_order q (texts_at types.now.texts numbers))) }
     ensures damaged { IsErrOf result TableRefusal.Damaged → (numbers : List ℕ)
-        → AreCounts counts.now numbers → ¬ AreNumbered (N.types names.now) numbers }
+        → AreCounts counts.now numbers → ¬ AreNumbered types.now.texts numbers }
 {
     for place in 0..counts.len() {
-        add_text(names, place as u32, counts[place], tally)?;
+        add_text(types, place as u32, counts[place], tally)?;
     }
     Ok(())
 }

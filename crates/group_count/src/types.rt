@@ -1,15 +1,14 @@
 //! Messages counted by the number of their log type.
 ghost use Rattle.std.specs.Prelude.{◌≡◌, ℕ, ◌<◌, ◌≤◌, ◌^◌, ◌++◌, List, [], ◌∷◌, pos, length, slice_index_or, All, IfOk, IsErrOf, IsOk, OnOk};
-ghost use Rattle.search_meaning.specs.Groups.{AreGroups, by_key, byte_order};
-ghost use Rattle.group_count.specs.Tables.{AreCounts, AreNumbered, AreTypes, HoldTypes, texts_at};
+ghost use Rattle.group_count.specs.Tables.{AreCounts, AreGroupsBy, AreTypes, HoldTypes, LackTexts};
 
 use crate::refusal::TableRefusal;
 use crate::text_tally::{groups_of, tally_texts};
-use row_codec::Names;
 use search_meaning::GroupList;
 use std::alloc::{AllocError, Global};
 use std::collections::BTreeMap;
 use std::marker::Model;
+use word_places::TypeTexts;
 
 /// How many messages of each log type were counted.
 #[derive(Debug, Drop)]
@@ -102,24 +101,20 @@ impl TypeTable {
 
     /// The groups of what was counted, by the texts of the log types. Numbers with one text are one
     /// group. There are none where a number that is none of a log type was counted.
-    pub fn groups<N: Names>(&self, alloc: Global, names: &N) -> Result<GroupList, TableRefusal>
-        ensures groups { IfOk result (λ groups. (numbers : List ℕ)
-            → AreTypes (length (N.types names.now)) self.now numbers
-            → AreNumbered (N.types names.now) numbers
-            → AreGroups byte_order (texts_at (N.types names.now) numbers) (by_key groups)) }
+    pub fn groups(&self, alloc: Global, types: &TypeTexts) -> Result<GroupList, TableRefusal>
+        ensures groups { IfOk result (AreGroupsBy types.now.texts self.now) }
         ensures numbered { IfOk result (λ _. (numbers : List ℕ)
-            → AreTypes (length (N.types names.now)) self.now numbers
-            → All (λ n. n < length (N.types names.now)) numbers) }
+            → AreTypes (length types.now.texts) self.now numbers
+            → All (λ n. n < length types.now.texts) numbers) }
         ensures moments { IfOk result (λ groups. All (λ g. g.moment ≡ pos 0) groups) }
-        ensures damaged { IsErrOf result TableRefusal.Damaged → (numbers : List ℕ)
-            → AreTypes (length (N.types names.now)) self.now numbers
-            → ¬ AreNumbered (N.types names.now) numbers }
+        ensures damaged { IsErrOf result TableRefusal.Damaged
+            → LackTexts types.now.texts self.now }
     {
         if self.beyond {
             return Err(TableRefusal::Damaged);
         }
         let mut tally = BTreeMap::new(alloc);
-        tally_texts(self.counts.as_slice(), names, &mut tally)?;
+        tally_texts(self.counts.as_slice(), types, &mut tally)?;
         Ok(groups_of(alloc, &tally)?)
     }
 }

@@ -1,44 +1,9 @@
 //! Tests of groups and of their lines.
-ghost use Rattle.std.specs.Prelude.{[]};
 
 use group_count::printed::{put_minutes, put_types};
 use group_count::{MinuteTable, TableRefusal, TypeTable};
-use plain_list::{Text, TextList};
-use row_codec::Names;
 use std::alloc::{AllocError, Global};
-
-/// The log types of an archive without words.
-#[derive(Drop)]
-struct LogTypes {
-    texts: TextList,
-}
-
-impl Names for LogTypes {
-    ghost types = { λ t. t.texts };
-
-    ghost words = { λ _. [] };
-
-    ghost version = { λ _. 1 };
-
-    fn micro(&self) -> bool {
-        false
-    }
-
-    fn type_text(&self, number: u32) -> Option<&[u8]> {
-        match self.texts.as_slice().get(number as usize) {
-            Some(text) => Some(text.as_slice()),
-            None => None,
-        }
-    }
-
-    fn word_text(&self, _number: u32) -> Option<&[u8]> {
-        None
-    }
-
-    fn word_number(&self, _text: &[u8]) -> Option<u32> {
-        None
-    }
-}
+use word_places::TypeTexts;
 
 /// The log types of the rows below. One of them stands twice, and one is the front of another.
 const TEXTS: &[&[u8]] = &[
@@ -90,14 +55,12 @@ const BY_MINUTE: &[(bool, &[(u8, i64)], &[u8])] = &[
 ];
 
 /// The log types.
-fn log_types(alloc: Global) -> Result<LogTypes, AllocError> {
-    let mut texts = Vec::new(alloc);
+fn log_types(alloc: Global) -> Result<TypeTexts, AllocError> {
+    let mut types = TypeTexts::begin(alloc, &[])?;
     for text in TEXTS {
-        texts.push(Text::new(Vec::from_slice(alloc, text)?))?;
+        types.keep(text)?;
     }
-    Ok(LogTypes {
-        texts: TextList::new(texts),
-    })
+    Ok(types)
 }
 
 /// A table of the log types above in which numbers were counted.
@@ -112,7 +75,7 @@ fn counted(alloc: Global, numbers: &[u32]) -> Result<TypeTable, AllocError> {
 /// What is printed of numbers by type.
 fn types_printed(
     alloc: Global,
-    types: &LogTypes,
+    types: &TypeTexts,
     numbers: &[u32],
 ) -> Result<Vec<u8>, TableRefusal> {
     let table = counted(alloc, numbers)?;
@@ -140,7 +103,7 @@ fn minutes_printed(
 }
 
 /// Whether just that is printed by type.
-fn prints_types(alloc: Global, types: &LogTypes, numbers: &[u32], text: &[u8]) -> bool {
+fn prints_types(alloc: Global, types: &TypeTexts, numbers: &[u32], text: &[u8]) -> bool {
     match types_printed(alloc, types, numbers) {
         Ok(out) => out.as_slice() == text,
         Err(_) => false,

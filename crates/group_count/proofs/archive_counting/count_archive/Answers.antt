@@ -1,5 +1,6 @@
 use Rattle.std.proofs.Common.{◌≡◌, ◌∙◌, ap, sym, subst, rules, refl}
 use Rattle.log_seams.proofs.MomentLemmas.{rests_on}
+use Rattle.word_places.specs.Held.{kept_of}
 use Rattle.search_walk.specs.Held.{Named, named}
 use Rattle.search_walk.specs.Opened.{NoFronts, ReadsFronts}
 use Rattle.search_walk.specs.StepsScope.{Scope}
@@ -10,7 +11,7 @@ use Rattle.search_walk.proofs.PreparedLemmas.{knows_kept, serves_kept}
 use Rattle.group_count.specs.StepsCounted.{Passes, Stops, sofar}
 use Rattle.group_count.specs.StepsServed.{IsServed}
 use Rattle.group_count.proofs.GroupedLemmas.{stopped_nothing}
-use Rattle.group_count.proofs.WalkedLemmas.{all_counted, all_stopped}
+use Rattle.group_count.proofs.WalkedLemmas.{all_counted, all_stopped, held_types}
 use Rattle.group_count.proofs.archive_counting.count_archive.Goals as goal
 
 pub of-requires-clause-searched : goal.of-requires-clause-searched
@@ -115,6 +116,12 @@ returns-clause-done g c =
     let x = sofar c.args.counter.now.counts c.args.expanded.now in
     let y = sofar c.count_segments.new.counter.counts c.count_segments.new.expanded in
     all_counted d0.seen d1.seen a n p.archive.files c.as_slice-fronts.result.now c.types_stand.ensures c.words_stand.ensures c.heads_stand.ensures kept.files (c.as_slice-fronts.ensures ∙ kept.segments) c.requires.opens known c.of.ensures.rests.seen g.T.RowTable.counted q _ c.in_ok-count.count x y c.args.opened.now c.count_segments.new.opened
-    (subst (λ (s : Scope). c.count_segments.new.held.types ≡ s.names.types) c.context-context.ensures c.in_ok-count.ensures.types) (search rules) (search rules)
+    (search rules) (search rules)
     (subst (λ (s : Scope). SearchedFronts (λ l. Passes g.T.RowTable.counted s.names s.query l x y) d1.seen s.names s.files s.query c.as_slice-fronts.result.now c.args.opened.now c.count_segments.new.opened c.in_ok-count.count)
     c.context-context.ensures c.in_ok-count.ensures.done)
+
+pub returns-clause-held : goal.returns-clause-held
+returns-clause-held g c =
+    let p = c.in_ok-prepared.prepared in
+    let kept : kept_of c.count_segments.new.held ≡ kept_of p.held = subst (λ (s : Scope). kept_of c.count_segments.new.held ≡ s.names.kept) c.context-context.ensures c.in_ok-count.ensures.kept in
+    held_types (g.D.Disk.state c.args.disk.now).seen c.args.places p c.count_segments.new.held kept c.in_ok-prepared.ensures.kept

@@ -3,8 +3,8 @@ use Rattle.search_walk.proofs.AnswerLemmas.{if_ok_to, on_err_to}
 use Rattle.group_count.proofs.WalkedLemmas.{counted_so, never_rose, stopped_so}
 use Rattle.group_count.proofs.page_taking.count_segments.Goals as goal
 
-pub returns-clause-types : goal.returns-clause-types
-returns-clause-types g c = if_ok_to c.visit_segments.result _ _ (λ _ served. served.serves.types) c.visit_segments.ensures.served
+pub returns-clause-kept : goal.returns-clause-kept
+returns-clause-kept g c = if_ok_to c.visit_segments.result _ _ (λ _ served. served.serves.kept) c.visit_segments.ensures.served
 
 pub returns-clause-done : goal.returns-clause-done
 returns-clause-done g c =

@@ -10,14 +10,14 @@ returns-then-is_rejected-clause-done g c = λ n plain lent name number ticks mes
 
 pub returns-in-None-clause-damaged : goal.returns-in-None-clause-damaged
 returns-in-None-clause-damaged g c = λ _ n lent message is.
-    none_stored n c.args.query.now c.args.held.now (row_of c.args.row) c.args.verdict c.rows_are_local.ensures.encoding (c.is_rejected.ensures.no (search rules)) (c.in-None.ensures.damaged refl) lent message is
+    none_stored n c.args.query.now c.args.held.now (row_of c.args.row) c.args.verdict (record { numbers = c.rows_are_of_type.ensures.numbers; spelling_of = c.rows_are_of_type.ensures.spelling; encoding_of = c.rows_are_of_type.ensures.encoding; spelling = c.rows_are_local.ensures.spelling; encoding = c.rows_are_local.ensures.encoding }) (c.is_rejected.ensures.no (search rules)) (c.in-None.ensures.damaged refl) lent message is
 
 pub returns-in_ok-count_found-in-Some-true-clause-done : goal.returns-in_ok-count_found-in-Some-true-clause-done
 returns-in_ok-count_found-in-Some-true-clause-done g c = λ n plain lent name number ticks message is.
-    stored_found g.T.RowTable.counted n c.args.query.now c.args.held.now (row_of c.args.row) c.args.verdict c.plan.result.now c.rows_are_local.ensures.encoding c.rows_are_local.ensures.spelling (c.is_rejected.ensures.no (search rules))
+    stored_found g.T.RowTable.counted n c.args.query.now c.args.held.now (row_of c.args.row) c.args.verdict c.plan.result.now (record { numbers = c.rows_are_of_type.ensures.numbers; spelling_of = c.rows_are_of_type.ensures.spelling; encoding_of = c.rows_are_of_type.ensures.encoding; spelling = c.rows_are_local.ensures.spelling; encoding = c.rows_are_local.ensures.encoding }) (c.is_rejected.ensures.no (search rules))
     c.plan.ensures plain lent c.in-Some-true.field-0 name number message (sofar c.args.counts.now ticks) (sofar c.count_found.new.counts ticks) (search rules) c.in-Some-true.ensures.found is (c.in_ok-count_found-in-Some-true.ensures ticks)
 
 pub returns-in-Some-false-clause-done : goal.returns-in-Some-false-clause-done
 returns-in-Some-false-clause-done g c = λ n plain lent name number ticks message is.
-    stored_left g.T.RowTable.counted n c.args.query.now c.args.held.now (row_of c.args.row) c.args.verdict c.plan.result.now c.rows_are_local.ensures.encoding c.rows_are_local.ensures.spelling (c.is_rejected.ensures.no (search rules))
+    stored_left g.T.RowTable.counted n c.args.query.now c.args.held.now (row_of c.args.row) c.args.verdict c.plan.result.now (record { numbers = c.rows_are_of_type.ensures.numbers; spelling_of = c.rows_are_of_type.ensures.spelling; encoding_of = c.rows_are_of_type.ensures.encoding; spelling = c.rows_are_local.ensures.spelling; encoding = c.rows_are_local.ensures.encoding }) (c.is_rejected.ensures.no (search rules))
     c.plan.ensures plain lent c.in-Some-false.field-0 name number message (sofar c.args.counts.now ticks) (search rules) c.in-Some-false.ensures.found is

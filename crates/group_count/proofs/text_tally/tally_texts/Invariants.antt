@@ -5,6 +5,6 @@ use Rattle.group_count.proofs.text_tally.tally_texts.Given as goal
 
 -- the texts of the numbers up to here are counted
 abbrev pub invariant-loop-place : goal.invariant-loop-place
-invariant-loop-place g l =
-    (numbers : List ℕ) → AreCounts l.counts numbers → AreNumbered (g.N.Names.types l.names) numbers
-    → IsTextTally l.tally (λ q. often_below (g.N.Names.types l.names) q l.place numbers)
+invariant-loop-place l =
+    (numbers : List ℕ) → AreCounts l.counts numbers → AreNumbered l.types.texts numbers
+    → IsTextTally l.tally (λ q. often_below l.types.texts q l.place numbers)
