@@ -135,18 +135,18 @@ spells_parts p bytes rest texts first count spells lt_first lt_count parts =
     (one.0, two.0 ∙ spells.count, one.1)
 
 -- what stands behind them
-pub spells_rest : (p : WordsPlace) (bytes rest : List ℕ) (texts : List (List ℕ)) (first count : ℕ) → Spells p bytes texts → first < 2 ^ 32 → count < 2 ^ 32
-    → bytes ≡ four_bytes first ++ (four_bytes count ++ rest) → rest ≡ flat_map text_bytes texts
-spells_rest p bytes rest texts first count spells lt_first lt_count parts =
-    (same_number count (length texts) rest (flat_map text_bytes texts) lt_count spells.are.count (spells_parts p bytes rest texts first count spells lt_first lt_count parts).2).1
+pub spells_rest : (p : WordsPlace) (bytes rest : List ℕ) (texts : List (List ℕ)) → Spells p bytes texts → p.first < 2 ^ 32 → p.count < 2 ^ 32
+    → bytes ≡ four_bytes p.first ++ (four_bytes p.count ++ rest) → rest ≡ flat_map text_bytes texts
+spells_rest p bytes rest texts spells lt_first lt_count parts =
+    (same_number p.count (length texts) rest (flat_map text_bytes texts) lt_count spells.are.count (spells_parts p bytes rest texts p.first p.count spells lt_first lt_count parts).2).1
 
 -- texts that were walked are spelled
-pub walked_spells : (p : WordsPlace) (bytes rest starts : List ℕ) (first : ℕ) → length bytes ≡ p.length → p.first < 2 ^ 32 → p.count < 2 ^ 32 → first ≡ p.first
-    → bytes ≡ four_bytes first ++ (four_bytes p.count ++ rest) → AreWalked p.count rest bytes starts → Spells p bytes (map (text_from bytes) starts)
-walked_spells p bytes rest starts first size lt lt_count same parts walked = record {
+pub walked_spells : (p : WordsPlace) (bytes rest starts : List ℕ) → length bytes ≡ p.length → p.first < 2 ^ 32 → p.count < 2 ^ 32
+    → bytes ≡ four_bytes p.first ++ (four_bytes p.count ++ rest) → AreWalked p.count rest bytes starts → Spells p bytes (map (text_from bytes) starts)
+walked_spells p bytes rest starts size lt lt_count parts walked = record {
   size = size;
   are = walked.are;
   first = lt;
   count = sym (same_number p.count (length (map (text_from bytes) starts)) rest (flat_map text_bytes (map (text_from bytes) starts)) lt_count walked.are.count walked.spelled).0;
-  spelled = parts ∙ ap (λ (l : List ℕ). four_bytes first ++ l) walked.spelled ∙ ap (λ (n : ℕ). four_bytes n ++ list_bytes (map (text_from bytes) starts)) same;
+  spelled = parts ∙ ap (λ (l : List ℕ). four_bytes p.first ++ l) walked.spelled;
 }

@@ -54,16 +54,16 @@ not_spelled count bytes none texts are len is =
     none texts are (ap (λ (l : List ℕ). four_bytes count ++ l) is ∙ ap (λ (n : ℕ). four_bytes n ++ flat_map text_bytes texts) (sym len))
 
 -- the texts of a payload that was loaded are those of the record
-pub some_loaded : {W : Type 0} (told : Option (List ℕ)) (p : WordsPlace) (payload rest : List ℕ) (first : ℕ) (took : List (List ℕ) → W → Type 0) (now : W)
-    → IfSome told (λ bytes. payload ≡ payload_in p bytes) → length payload ≡ p.length → p.first < 2 ^ 32 → first ≡ p.first
-    → payload ≡ four_bytes first ++ (four_bytes p.count ++ rest) → Took took p.count rest now → SomeTexts told p (λ texts. took texts now)
-some_loaded told p payload rest first took now loaded size lt same parts all =
+pub some_loaded : {W : Type 0} (told : Option (List ℕ)) (p : WordsPlace) (payload rest : List ℕ) (took : List (List ℕ) → W → Type 0) (now : W)
+    → IfSome told (λ bytes. payload ≡ payload_in p bytes) → length payload ≡ p.length → p.first < 2 ^ 32
+    → payload ≡ four_bytes p.first ++ (four_bytes p.count ++ rest) → Took took p.count rest now → SomeTexts told p (λ texts. took texts now)
+some_loaded told p payload rest took now loaded size lt parts all =
     let spells : Spells p payload all.texts = record {
       size = size;
       are = all.are;
       first = lt;
       count = all.count_is;
-      spelled = parts ∙ ap (λ (n : ℕ). four_bytes n ++ (four_bytes p.count ++ rest)) same
+      spelled = parts
           ∙ ap (λ (l : List ℕ). four_bytes p.first ++ l) (ap (λ (l : List ℕ). four_bytes p.count ++ l) all.spelled ∙ ap (λ (n : ℕ). four_bytes n ++ flat_map text_bytes all.texts) (sym all.count_is));
     } in
     (all.texts, spells_there told p payload all.texts loaded spells, all.taken)

@@ -16,7 +16,6 @@ use crate::reading::{front_of, load};
 use crate::refusal::HoldRefusal;
 use log_seams::Disk;
 use plain_list::NumberList;
-use record_format::texts_front;
 use std::alloc::{AllocError, Global};
 use std::mem;
 
@@ -122,13 +121,10 @@ fn add_record<D: Disk>(
 {
     load(disk, place, buffer)?;
     let payload = front_of(buffer.as_slice(), place.length as usize);
-    let Some(front) = texts_front(payload) else {
+    let Some(rest) = place.texts_in(payload) else {
         return Err(HoldRefusal::Damaged);
     };
-    if !place.has_numbers(front.first, front.count) {
-        return Err(HoldRefusal::Damaged);
-    }
-    if !add_each(alloc, front.rest, place.first, place.count, needles, lists)? {
+    if !add_each(alloc, rest, place.first, place.count, needles, lists)? {
         return Err(HoldRefusal::Damaged);
     }
     Ok(())

@@ -6,7 +6,7 @@ ghost use Rattle.word_places.specs.Places.{Spells};
 ghost use Rattle.word_places.specs.Record.{AreBeside, AreWalked, IsTextAt, text_from};
 
 use crate::place::WordsPlace;
-use record_format::{next_text, texts_front};
+use record_format::next_text;
 use std::alloc::{AllocError, Global};
 use std::marker::Model;
 
@@ -138,13 +138,10 @@ fn starts_in(alloc: Global, place: WordsPlace, bytes: &[u8]) -> Result<Option<Ve
     ensures none { IfOk result (λ read. IfNone read
         ((texts : List (List ℕ)) → ¬ Spells place bytes.now texts)) }
 {
-    let Some(front) = texts_front(bytes) else {
+    let Some(texts) = place.texts_in(bytes) else {
         return Ok(None);
     };
-    if !place.has_numbers(front.first, front.count) {
-        return Ok(None);
-    }
-    walked(alloc, place.count, front.rest, bytes)
+    walked(alloc, place.count, texts, bytes)
 }
 
 // Where the length of each of so many texts stands in a payload, where its rest is those and no

@@ -12,7 +12,7 @@ use crate::place::{WordsPlace, place_at};
 use crate::reading::{front_of, load};
 use crate::refusal::HoldRefusal;
 use log_seams::Disk;
-use record_format::{next_text, texts_front};
+use record_format::next_text;
 use std::alloc::AllocError;
 
 /// What takes texts one after the other, as they are read. A text stands in a buffer only until the
@@ -76,13 +76,10 @@ fn take_record<D: Disk, V: TakesTexts>(
 {
     load(disk, place, buffer)?;
     let payload = front_of(buffer.as_slice(), place.length as usize);
-    let Some(front) = texts_front(payload) else {
+    let Some(rest) = place.texts_in(payload) else {
         return Err(HoldRefusal::Damaged);
     };
-    if !place.has_numbers(front.first, front.count) {
-        return Err(HoldRefusal::Damaged);
-    }
-    if !take_each(front.rest, place.count, taker)? {
+    if !take_each(rest, place.count, taker)? {
         return Err(HoldRefusal::Damaged);
     }
     Ok(())
