@@ -128,8 +128,9 @@ impl Filter {
         let looked = self.tokens.as_slice();
         let longest = longest_run(alloc, plan.wide())?;
         let others = self.others();
+        let kinds = kind_bits(looked);
         Ok(Question {
-            kinds: kind_bits(looked),
+            kinds,
             others,
             lead: longest_rare(looked, others),
             longest: Finder::new(longest.as_slice()).into_owned(alloc)?,
@@ -137,7 +138,7 @@ impl Filter {
             firm: firm_bits(looked) & others,
             runs: run_bits(self.runs.as_slice()),
             stamped: self.run_stamped,
-            bounded: has_bound(looked),
+            by_words: kinds.without_numbers() || has_bound(looked),
             wide: copied(alloc, plan.wide())?,
             skeleton: copied(alloc, plan.skeleton())?,
             constants: constants_of(alloc, plan)?,

@@ -270,7 +270,7 @@ impl Filter {
         ensures { (all : ℕ) → Has all result → (word : ℕ)
             → slice_get words.now slot.place ≡ Some word → SlotGives self.now slot word all }
     {
-        match word_at(words, slot.place) {
+        match word_at(words, slot.place as usize) {
             Some(word) => self.variable_bits(slot.kind, word),
             None => 0,
         }

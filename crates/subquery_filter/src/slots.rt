@@ -1,5 +1,5 @@
 //! The slots of log types that may bring tokens.
-ghost use Rattle.std.specs.Prelude.{◌≡◌, ◌≢◌, ◌<◌, ◌≤◌, ℕ, List, false, IfOk, IfSome, IsFalse, IsTrue, OnOk, Some, length, slice_get};
+ghost use Rattle.std.specs.Prelude.{◌≡◌, ◌≢◌, ◌<◌, ◌≤◌, ◌+◌, ℕ, List, false, IfOk, IfSome, IsFalse, IsTrue, OnOk, Some, length, slice_get};
 ghost use Rattle.query_plan.specs.declared.pieces.Piece.{Piece};
 ghost use Rattle.subquery_filter.specs.declared.token.Token.{Token};
 ghost use Rattle.logtype_text.specs.declared.symbols.Kind.{Kind};
@@ -51,9 +51,9 @@ pub(crate) struct Question {
     /// The bits of all runs of the pattern, and of those that some stamp may have.
     pub(crate) runs: u8,
     pub(crate) stamped: u8,
-    /// Whether words tell of most numbers that no token is a part of them, whatever slots they are
-    /// in.
-    pub(crate) bounded: bool,
+    /// Whether most rows are told by their words, whatever slots these are in: no number brings a
+    /// token, or words tell of most numbers that no token is a part of them.
+    pub(crate) by_words: bool,
     /// The pattern, and its skeleton.
     pub(crate) wide: Pattern,
     pub(crate) skeleton: Pattern,
@@ -65,7 +65,8 @@ pub(crate) struct Question {
 #[derive(Clone, Copy, Debug)]
 pub(crate) struct Slot {
     /// The place of its word among those of a row.
-    pub(crate) place: usize,
+    // A long log has a million slots. In 32 bits, a slot takes half of the memory.
+    pub(crate) place: u32,
     pub(crate) kind: Kind,
     /// The bits of the tokens that may stand there.
     pub(crate) bits: u8,
@@ -123,25 +124,29 @@ impl Question {
         !has(self.stamped, alone) || (alone != 0 && has(alone, self.runs))
     }
 
-    /// Whether less may be asked of log types that few messages have: words tell of numbers, or
+    /// Whether less may be asked of log types that few messages have: words tell of rows, or
     /// stamps may have all runs, so that no log type is rejected by those that it leaves to them,
     /// and there are so many firm tokens.
     #[inline]
     fn spares_rare(&self) -> bool {
-        self.bounded || (has(self.stamped, self.runs) && self.firm.count_ones() >= LEAST_FIRM)
+        self.by_words || (has(self.stamped, self.runs) && self.firm.count_ones() >= LEAST_FIRM)
     }
 
     /// The bits of the tokens that are looked for in such a log type.
     #[inline]
     fn rare_tokens(&self) -> u8 {
-        if self.bounded { self.others } else { self.firm }
+        if self.by_words {
+            self.others
+        } else {
+            self.firm
+        }
     }
 
     /// Whether few rows are left by the words of such a log type whose constant bytes bring these
     /// bits.
     #[inline]
     fn leaves_few(&self, known: u8) -> bool {
-        if self.bounded {
+        if self.by_words {
             return !has(known, self.tokens);
         }
         (self.firm & !known).count_ones() >= LEAST_FIRM
@@ -156,6 +161,11 @@ impl Question {
 }
 
 impl KindBits {
+    /// Whether numbers bring no token.
+    pub(crate) fn without_numbers(&self) -> bool {
+        self.whole | self.decimal == 0
+    }
+
     /// The bits that a variable of this kind may bring.
     fn of(&self, kind: Kind) -> u8
         ensures { (tokens : List Token) → AreKindBits tokens self.now → Covers tokens kind result }
@@ -205,7 +215,7 @@ fn list_slot(
     kinds: &KindBits,
     known: u8,
     kind: Kind,
-    place: usize,
+    place: u32,
 ) -> Result<(), AllocError>
     ensures listed { OnOk result ((tokens : List Token) → AreKindBits tokens kinds.now
         → (first : ℕ) → first ≤ length slots.old.items
@@ -230,6 +240,13 @@ fn past_plain(text: &[u8]) -> &[u8]
     &text[plain_front(text)..]
 }
 
+/// The place behind another one. There is none behind the last that 32 bits have.
+fn place_behind(place: u32) -> Result<u32, AllocError>
+    ensures { IfOk result (λ next. next ≡ place + 1) }
+{
+    place.checked_add(1).ok_or(AllocError)
+}
+
 /// Lists the slots of a log type that may bring a bit beyond those that are known.
 fn list_slots(
     slots: &mut Vec<Slot>,
@@ -243,11 +260,11 @@ fn list_slots(
     ensures stays { OnOk result (Stays slots.old.items slots.new.items) }
 {
     let mut rest = text;
-    let mut place = 0;
+    let mut place: u32 = 0;
     while let Some((symbol, after)) = first_symbol(past_plain(rest)) {
         if let Symbol::Slot(kind) = symbol {
             list_slot(slots, kinds, known, kind, place)?;
-            place += 1;
+            place = place_behind(place)?;
         }
         rest = after;
     }
@@ -320,7 +337,7 @@ fn unlisted_test(kinds: &KindBits, known: u8, first: usize) -> TypeTest
 }
 
 /// What is known of a log type that few messages have, where its constant bytes lack so many firm
-/// tokens, or any where words tell of numbers. The tokens that are not looked for are taken to
+/// tokens, or any where words tell of rows. The tokens that are not looked for are taken to
 /// stand there, and neither its slots nor its runs are asked: a row of it is told by its words.
 fn rare_test(
     tokens: &[Token],

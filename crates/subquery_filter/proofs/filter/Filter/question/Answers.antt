@@ -13,5 +13,5 @@ returns-clause-question c = λ types a.
       wide = c.in_ok-copied.ensures ∙ c.wide-2.ensures;
       skeleton = c.in_ok-copied-2.ensures ∙ c.skeleton.ensures;
       all = subst (λ (l : List Token). HasAll l c.all_bits.result) looked c.all_bits.ensures.each;
-      kinds = subst (λ (l : List Token). AreKindBits l c.kind_bits.result) looked (c.kind_bits.ensures coded);
+      kinds = subst (λ (l : List Token). AreKindBits l c.kind_bits-kinds.result) looked (c.kind_bits-kinds.ensures coded);
     }
