@@ -11,7 +11,7 @@ ghost use Rattle.search_engine.specs.Over.{IsServedOver};
 ghost use Rattle.search_engine.specs.SegmentsDone.{SearchedFronts, StoppedFronts, WentOverFronts};
 ghost use Rattle.search_engine.specs.Waiting.{state};
 
-use crate::lane::{Lane, LaneScope};
+use crate::lane::Lane;
 use crate::page_batch::PageBatch;
 use crate::page_taking::print_segments;
 use crate::parts::{lend_lanes, take_back_all};
@@ -19,7 +19,7 @@ use crate::turns::search_turns;
 use archive_open::FileEntry;
 use archive_places::SegmentFront;
 use log_seams::{Disk, SharedDisk, Sink};
-use search_walk::{Context, SearchRefusal};
+use search_walk::{Context, LaneScope, SearchRefusal};
 use std::sync::ledger::Ledger;
 use std::thread::Threads;
 use step_count::Steps;

@@ -14,28 +14,15 @@ use crate::page_slot::NO_COUNTS;
 use crate::page_taking::print_segments;
 use crate::refusal::in_text;
 use crate::text_sink::TextSink;
-use archive_open::FileEntry;
 use archive_places::SegmentFront;
 use log_seams::Disk;
-use row_codec::Layouts;
-use search_walk::{Context, Query, SearchRefusal};
+use search_walk::{LaneScope, SearchRefusal};
 use std::alloc::Global;
 use std::marker::{Brand, Model};
 use std::mem::swap;
 use std::sync::ledger::{Blank, Ledger};
 use step_count::Steps;
-use subquery_filter::AskedTypes;
 use word_places::HeldWords;
-
-/// What all lanes of a search go over, borrowed, as a [`Context`] does.
-#[derive(Clone, Copy)]
-pub(crate) struct LaneScope<'q> {
-    pub(crate) query: &'q Query,
-    pub(crate) layouts: &'q Layouts,
-    pub(crate) asked: &'q AskedTypes,
-    pub(crate) files: &'q [FileEntry],
-    pub(crate) found: &'q [Option<u32>],
-}
 
 /// Searches segments as one worker does, over a part of the disk and into a text that is empty,
 /// with counters of its own. A text that cannot grow is a fault of the output.
@@ -63,15 +50,7 @@ fn search_into<P: Disk, L: Ledger, M: Ledger>(
 {
     let mut opened: Steps<L> = Steps::new(one);
     let mut expanded: Steps<M> = Steps::new(two);
-    let context = Context::new(
-        lane.query,
-        lane.layouts,
-        lane.asked,
-        lane.files,
-        lane.found,
-        first,
-        part,
-    );
+    let context = lane.context(first, part);
     let mut batch = PageBatch::new(sink.alloc);
     let count = print_segments(
         &context,

@@ -12,9 +12,10 @@ ghost use Rattle.search_walk.specs.StepsScope.{IsScope, Scope, scope};
 ghost use Rattle.search_engine.specs.Lanes.{IsFresh, IsLane, LaneView};
 ghost use Rattle.log_seams.specs.Parts.{Lends};
 
-use crate::lane::{Lane, LaneScope};
+use crate::lane::Lane;
 use archive_places::SegmentFront;
 use log_seams::SharedDisk;
+use search_walk::LaneScope;
 use std::alloc::{AllocError, Global};
 use word_places::HeldWords;
 

@@ -9,13 +9,12 @@ ghost use Rattle.search_engine.specs.Searched.{HasSearched, HasStopped};
 ghost use Rattle.search_meaning.specs.Journal.{OfJournal, ReadsNoBarren, asked};
 
 use crate::beside::{Crew, Workers, search_fronts};
-use crate::lane::LaneScope;
 use crate::page_batch::PageBatch;
 use archive_places::{Places, heads_stand, types_stand, words_stand};
 use column_store::Range;
 use log_seams::{SharedDisk, Sink};
 use search_meaning::Report;
-use search_walk::{Prepared, Query, SearchRefusal};
+use search_walk::{LaneScope, Prepared, Query, SearchRefusal};
 use std::alloc::Global;
 use std::sync::ledger::Ledger;
 use std::thread::Threads;
