@@ -11,7 +11,7 @@ use Rattle.group_count.specs.Tables.{AreMinutes, AreTallied, HoldMinutes, Minute
 use Rattle.group_count.proofs.CountLemmas.{count_cons}
 use Rattle.group_count.proofs.GroupLemmas.{tally_groups}
 
-none_in : (b : Bool) → cond {A = ℕ} b 0 0 ≡ 0
+pub none_in : (b : Bool) → cond {A = ℕ} b 0 0 ≡ 0
 none_in true = refl
 none_in false = refl
 
@@ -31,7 +31,7 @@ none_held table empty run without = λ few. record {
   others = without;
 }
 
-all_put : (table : MinuteState) (minutes : List (ℤ × ℕ)) (keys : List (Option ℤ)) → length keys < 2 ^ 64 → (held : HoldMinutes table keys) → Put table minutes
+pub all_put : (table : MinuteState) (minutes : List (ℤ × ℕ)) (keys : List (Option ℤ)) → length keys < 2 ^ 64 → (held : HoldMinutes table keys) → Put table minutes
     → AreTallied int_cmp minutes (λ q. held.often q + cond (is_eq (int_cmp table.first q)) table.run 0)
 all_put table minutes keys few held put =
     put held.often (λ q. let most = count_by-le-length (is_minute q) keys in let each = held.each q in omega arith) held.tally

@@ -5,6 +5,7 @@ pub mod Refused
 pub mod StepsArchive
 pub mod StepsCounted
 pub mod StepsGoing
+pub mod StepsLanes
 pub mod StepsRows
 pub mod StepsServed
 pub mod StepsTypes

@@ -10,6 +10,10 @@ use Rattle.search_walk.specs.Held.{Named}
 use Rattle.group_count.specs.declared.counts.Counts.{Counts}
 use Rattle.search_meaning.specs.Grouped.{AreExpanded, messages_of}
 
+-- whatever archive the rows of the one table are of, nothing was counted of it in the other
+abbrev pub IsLike : {T : Type 0} → (T → ℕ → List Row → Type 0) → T → T → Type 0
+IsLike counted table other = (known : ℕ) (before : List Row) → counted table known before → counted other known []
+
 -- the table, how many messages were found and how many expanded, and the ticks of those that were expanded
 pub record Sofar (T : Type 0) : Type 0 where
   pub table : T

@@ -19,7 +19,7 @@ counted_on a b c m n one two = λ fits.
     let here : b ≡ a + m = one (omega (arith, fits)) in
     omega (arith, here, two (omega (arith, fits, here)))
 
-zip_append : {A B : Type 0} (R : A → B → Type 0) (xs xs2 : List A) (ys ys2 : List B) → AllZip R xs ys → AllZip R xs2 ys2
+pub zip_append : {A B : Type 0} (R : A → B → Type 0) (xs xs2 : List A) (ys ys2 : List B) → AllZip R xs ys → AllZip R xs2 ys2
     → AllZip R (xs ++ xs2) (ys ++ ys2)
 zip_append R [] xs2 [] ys2 one two = two
 zip_append R [] xs2 (y ∷ ys) ys2 one two = absurd one

@@ -8,13 +8,14 @@ ghost use Rattle.group_count.specs.StepsArchive.{HasCounted, HoldsTypes};
 ghost use Rattle.group_count.specs.StepsCounted.{sofar};
 ghost use Rattle.group_count.specs.StepsServed.{MayCount};
 
+use crate::beside::{Crew, Workers, count_fronts};
 use crate::page_counter::PageCounter;
-use crate::page_taking::count_segments;
 use crate::table::RowTable;
 use archive_places::{Places, heads_stand, types_stand, words_stand};
-use log_seams::Disk;
-use search_walk::{Prepared, Query, SearchRefusal};
+use log_seams::SharedDisk;
+use search_walk::{LaneScope, Prepared, Query, SearchRefusal};
 use std::sync::ledger::Ledger;
+use std::thread::Threads;
 use step_count::Steps;
 use word_places::HeldWords;
 
@@ -30,7 +31,14 @@ pub(crate) struct Gone {
 }
 
 /// Counts the messages of an archive that are found.
-pub(crate) fn count_archive<D: Disk, T: RowTable, L: Ledger, M: Ledger>(
+pub(crate) fn count_archive<
+    R: Threads + Sync,
+    D: SharedDisk,
+    T: RowTable + Send,
+    L: Ledger,
+    M: Ledger,
+>(
+    workers: Workers<'_, R>,
     query: &Query,
     places: Places,
     disk: &mut D,
@@ -38,24 +46,26 @@ pub(crate) fn count_archive<D: Disk, T: RowTable, L: Ledger, M: Ledger>(
     opened: &mut Steps<L>,
     expanded: &mut Steps<M>,
 ) -> Result<Gone, SearchRefusal>
-    requires { MayCount (D.state disk.old).seen places query.now counter.old.way }
+    requires { MayCount (D.Disk.state disk.old).seen places query.now counter.old.way }
 
     // what stays
-    ensures rests { Rests (D.state disk.old) (D.state disk.new) }
-    ensures reads { ReadsAside (D.state disk.old) (D.state disk.new) query.now }
+    ensures rests { Rests (D.Disk.state disk.old) (D.Disk.state disk.new) }
+    ensures reads { ReadsAside (D.Disk.state disk.old) (D.Disk.state disk.new) query.now }
 
     // by the answer
-    ensures held { IfOk result (λ gone. HoldsTypes (D.state disk.old).seen places gone.held) }
-    ensures done { IfOk result (λ gone. OfJournal (D.state disk.old).seen (λ h es held. HasCounted
-        T.counted h es held query.now gone (sofar counter.old.counts expanded.old)
-        (sofar counter.new.counts expanded.new) opened.old opened.new)) }
-    ensures stopped { OnErr result (StopsJournal (D.state disk.old).seen query.now
+    ensures held { IfOk result (λ gone. HoldsTypes (D.Disk.state disk.old).seen places gone.held) }
+    ensures done { IfOk result (λ gone. OfJournal (D.Disk.state disk.old).seen (λ h es held.
+        HasCounted T.RowTable.counted h es held query.now gone
+        (sofar counter.old.counts expanded.old) (sofar counter.new.counts expanded.new)
+        opened.old opened.new)) }
+    ensures stopped { OnErr result (StopsJournal (D.Disk.state disk.old).seen query.now
         opened.old opened.new expanded.old expanded.new) }
 
     // causes
-    ensures damaged { IsErrOf result SearchRefusal.Damaged → IsNoJournal (D.state disk.old).seen }
+    ensures damaged { IsErrOf result SearchRefusal.Damaged
+        → IsNoJournal (D.Disk.state disk.old).seen }
     ensures disk_counts { CountsOf SearchRefusal.DiskFault
-        (D.state disk.old).faults (D.state disk.new).faults result }
+        (D.Disk.state disk.old).faults (D.Disk.state disk.new).faults result }
     ensures sink { ¬ IsErrOf result SearchRefusal.SinkFault }
 {
     // A journal's log types, words and heads stand where its places say.
@@ -66,7 +76,19 @@ pub(crate) fn count_archive<D: Disk, T: RowTable, L: Ledger, M: Ledger>(
     let Prepared { mut held, archive } = prepared;
     let context = archive.context(query, &held, disk);
     let fronts = archive.segments.as_slice();
-    let count = count_segments(&context, &mut held, fronts, disk, counter, opened, expanded)?;
+    let lane = LaneScope {
+        query,
+        layouts: &archive.layouts,
+        asked: &archive.asked,
+        files: archive.files.as_slice(),
+        found: archive.found.as_slice(),
+    };
+    let crew = Crew {
+        workers,
+        context: &context,
+        lane,
+    };
+    let count = count_fronts(&crew, &mut held, fronts, disk, counter, opened, expanded)?;
     Ok(Gone {
         held,
         opened: count,

@@ -1,5 +1,5 @@
 //! Counting the messages of an archive.
-ghost use Rattle.std.specs.Prelude.{◌≡◌, ◌<◌, ◌^◌, ℕ, ℤ, pos, List, [], length, count_by, is_none, All, Option, IfOk, OnErr, IsErrOf};
+ghost use Rattle.std.specs.Prelude.{◌≡◌, ◌<◌, ◌^◌, ℤ, pos, List, [], length, count_by, is_none, All, Option, IfOk, OnErr, IsErrOf};
 ghost use Rattle.std.specs.Ordering.{int_cmp};
 ghost use Rattle.log_seams.specs.Disk.{Rests};
 ghost use Rattle.log_seams.specs.Outside.{CountsOf};
@@ -17,6 +17,7 @@ ghost use Rattle.group_count.specs.StepsServed.{MayCount};
 ghost use Rattle.group_count.specs.Tables.{AreGroupsBy, AreMinutes, LackTexts};
 
 use crate::archive_counting::{Gone, count_archive};
+use crate::beside::Workers;
 use crate::counts::Counts;
 use crate::laws::rows_have_keys;
 use crate::minutes::MinuteTable;
@@ -26,11 +27,12 @@ use crate::types::TypeTable;
 use crate::way::{Way, way_of};
 use archive_places::{Places, types_stand};
 use column_store::Range;
-use log_seams::Disk;
+use log_seams::{Disk, SharedDisk};
 use search_meaning::{GroupBy, GroupReport, Grouped};
 use search_walk::{Query, SearchRefusal};
 use std::alloc::{AllocError, Global};
 use std::sync::ledger::Ledger;
+use std::thread::Threads;
 use step_count::Steps;
 use wild_match::Pattern;
 use word_places::{TypeTexts, words_are_one};
@@ -140,7 +142,8 @@ fn minutes_of(
 }
 
 /// Counts the messages of an archive that are found, by their log types.
-fn group_types<D: Disk, L: Ledger, M: Ledger>(
+fn group_types<R: Threads + Sync, D: SharedDisk, L: Ledger, M: Ledger>(
+    workers: Workers<'_, R>,
     alloc: Global,
     query: &Query,
     way: Way,
@@ -149,22 +152,23 @@ fn group_types<D: Disk, L: Ledger, M: Ledger>(
     opened: &mut Steps<L>,
     expanded: &mut Steps<M>,
 ) -> Result<Grouped, SearchRefusal>
-    requires { MayCount (D.state disk.old).seen places query.now way }
+    requires { MayCount (D.Disk.state disk.old).seen places query.now way }
 
     // what stays
-    ensures rests { Rests (D.state disk.old) (D.state disk.new) }
-    ensures reads { ReadsAside (D.state disk.old) (D.state disk.new) query.now }
+    ensures rests { Rests (D.Disk.state disk.old) (D.Disk.state disk.new) }
+    ensures reads { ReadsAside (D.Disk.state disk.old) (D.Disk.state disk.new) query.now }
 
     // by the answer
-    ensures done { IfOk result (λ g. GroupsJournal (D.state disk.old).seen query.now GroupBy.Shape g
-        opened.old opened.new expanded.old expanded.new) }
-    ensures stopped { OnErr result (StopsJournal (D.state disk.old).seen query.now
+    ensures done { IfOk result (λ g. GroupsJournal (D.Disk.state disk.old).seen query.now
+        GroupBy.Shape g opened.old opened.new expanded.old expanded.new) }
+    ensures stopped { OnErr result (StopsJournal (D.Disk.state disk.old).seen query.now
         opened.old opened.new expanded.old expanded.new) }
 
     // causes
-    ensures damaged { IsErrOf result SearchRefusal.Damaged → IsNoJournal (D.state disk.old).seen }
+    ensures damaged { IsErrOf result SearchRefusal.Damaged
+        → IsNoJournal (D.Disk.state disk.old).seen }
     ensures disk_counts { CountsOf SearchRefusal.DiskFault
-        (D.state disk.old).faults (D.state disk.new).faults result }
+        (D.Disk.state disk.old).faults (D.Disk.state disk.new).faults result }
     ensures sink { ¬ IsErrOf result SearchRefusal.SinkFault }
 {
     // The log types of rows are those of the messages that they are the encodings of, and those of
@@ -173,13 +177,14 @@ fn group_types<D: Disk, L: Ledger, M: Ledger>(
     types_stand();
     let table = TypeTable::new(alloc, places.types_count);
     let mut counter = PageCounter::new(alloc, way, table);
-    let gone = count_archive(query, places, disk, &mut counter, opened, expanded)?;
+    let gone = count_archive(workers, query, places, disk, &mut counter, opened, expanded)?;
     let grouped = types_of(alloc, &counter.counts, &gone, disk)?;
     Ok(grouped)
 }
 
 /// Counts the messages of an archive that are found, by the minutes of their stamps.
-fn group_minutes<D: Disk, L: Ledger, M: Ledger>(
+fn group_minutes<R: Threads + Sync, D: SharedDisk, L: Ledger, M: Ledger>(
+    workers: Workers<'_, R>,
     alloc: Global,
     query: &Query,
     way: Way,
@@ -188,22 +193,23 @@ fn group_minutes<D: Disk, L: Ledger, M: Ledger>(
     opened: &mut Steps<L>,
     expanded: &mut Steps<M>,
 ) -> Result<Grouped, SearchRefusal>
-    requires { MayCount (D.state disk.old).seen places query.now way }
+    requires { MayCount (D.Disk.state disk.old).seen places query.now way }
 
     // what stays
-    ensures rests { Rests (D.state disk.old) (D.state disk.new) }
-    ensures reads { ReadsAside (D.state disk.old) (D.state disk.new) query.now }
+    ensures rests { Rests (D.Disk.state disk.old) (D.Disk.state disk.new) }
+    ensures reads { ReadsAside (D.Disk.state disk.old) (D.Disk.state disk.new) query.now }
 
     // by the answer
-    ensures done { IfOk result (λ g. GroupsJournal (D.state disk.old).seen query.now GroupBy.Minute g
-        opened.old opened.new expanded.old expanded.new) }
-    ensures stopped { OnErr result (StopsJournal (D.state disk.old).seen query.now
+    ensures done { IfOk result (λ g. GroupsJournal (D.Disk.state disk.old).seen query.now
+        GroupBy.Minute g opened.old opened.new expanded.old expanded.new) }
+    ensures stopped { OnErr result (StopsJournal (D.Disk.state disk.old).seen query.now
         opened.old opened.new expanded.old expanded.new) }
 
     // causes
-    ensures damaged { IsErrOf result SearchRefusal.Damaged → IsNoJournal (D.state disk.old).seen }
+    ensures damaged { IsErrOf result SearchRefusal.Damaged
+        → IsNoJournal (D.Disk.state disk.old).seen }
     ensures disk_counts { CountsOf SearchRefusal.DiskFault
-        (D.state disk.old).faults (D.state disk.new).faults result }
+        (D.Disk.state disk.old).faults (D.Disk.state disk.new).faults result }
     ensures sink { ¬ IsErrOf result SearchRefusal.SinkFault }
 {
     // The minutes of rows are those of the messages that they are the encodings of. From version 3
@@ -211,44 +217,67 @@ fn group_minutes<D: Disk, L: Ledger, M: Ledger>(
     rows_have_keys();
     let table = MinuteTable::new(alloc, places.header.version >= 3);
     let mut counter = PageCounter::new(alloc, way, table);
-    let gone = count_archive(query, places, disk, &mut counter, opened, expanded)?;
+    let gone = count_archive(workers, query, places, disk, &mut counter, opened, expanded)?;
     let grouped = minutes_of(alloc, counter.into_counts(), &gone)?;
     Ok(grouped)
 }
 
-/// Counts the messages of an archive that are found, by what it is asked.
-fn group_found<D: Disk, L: Ledger, M: Ledger>(
-    alloc: Global,
-    query: &Query,
+/// A query, and by what it is told which messages it finds.
+#[derive(Clone, Copy)]
+struct PlannedQuery<'a> {
+    query: &'a Query,
     way: Way,
+}
+
+/// Counts the messages of an archive that are found, by what it is asked.
+fn group_found<R: Threads + Sync, D: SharedDisk, L: Ledger, M: Ledger>(
+    workers: Workers<'_, R>,
+    alloc: Global,
+    planned: PlannedQuery<'_>,
     places: Places,
     disk: &mut D,
     by: GroupBy,
     opened: &mut Steps<L>,
     expanded: &mut Steps<M>,
 ) -> Result<Grouped, SearchRefusal>
-    requires { MayCount (D.state disk.old).seen places query.now way }
+    requires may { MayCount (D.Disk.state disk.old).seen places planned.query.now planned.way }
 
     // what stays
-    ensures rests { Rests (D.state disk.old) (D.state disk.new) }
-    ensures reads { ReadsAside (D.state disk.old) (D.state disk.new) query.now }
+    ensures rests { Rests (D.Disk.state disk.old) (D.Disk.state disk.new) }
+    ensures reads { ReadsAside (D.Disk.state disk.old) (D.Disk.state disk.new)
+        planned.entry.query.now }
 
     // by the answer
-    ensures done { IfOk result (λ g. GroupsJournal (D.state disk.old).seen query.now by g
-        opened.old opened.new expanded.old expanded.new) }
-    ensures stopped { OnErr result (StopsJournal (D.state disk.old).seen query.now
-        opened.old opened.new expanded.old expanded.new) }
+    ensures done { IfOk result (λ g. GroupsJournal (D.Disk.state disk.old).seen
+        planned.entry.query.now by g opened.old opened.new expanded.old expanded.new) }
+    ensures stopped { OnErr result (StopsJournal (D.Disk.state disk.old).seen
+        planned.entry.query.now opened.old opened.new expanded.old expanded.new) }
 
     // causes
-    ensures damaged { IsErrOf result SearchRefusal.Damaged → IsNoJournal (D.state disk.old).seen }
+    ensures damaged { IsErrOf result SearchRefusal.Damaged
+        → IsNoJournal (D.Disk.state disk.old).seen }
     ensures disk_counts { CountsOf SearchRefusal.DiskFault
-        (D.state disk.old).faults (D.state disk.new).faults result }
+        (D.Disk.state disk.old).faults (D.Disk.state disk.new).faults result }
     ensures sink { ¬ IsErrOf result SearchRefusal.SinkFault }
 {
+    let PlannedQuery { query, way } = planned;
     match by {
-        GroupBy::Shape => group_types(alloc, query, way, places, disk, opened, expanded),
-        GroupBy::Minute => group_minutes(alloc, query, way, places, disk, opened, expanded),
+        GroupBy::Shape => group_types(workers, alloc, query, way, places, disk, opened, expanded),
+        GroupBy::Minute => group_minutes(
+            workers, alloc, query, way, places, disk, opened, expanded,
+        ),
     }
+}
+
+/// What is counted, and by what.
+#[derive(Clone, Copy)]
+pub struct GroupQuery<'a> {
+    /// What the messages are to match.
+    pub pattern: &'a Pattern,
+    /// Of which time they are to be.
+    pub range: &'a Range,
+    /// What they are counted by.
+    pub by: GroupBy,
 }
 
 /// Counts the messages of an archive that a pattern matches, in the range, by their log types or by
@@ -260,6 +289,11 @@ fn group_found<D: Disk, L: Ledger, M: Ledger>(
 /// is decided as it is stored. Otherwise `expanded` counts the messages in the range that the
 /// widened pattern matches.
 ///
+/// The `workers` are so many threads in all, each with a part of the disk. Each counts whole
+/// segments by itself, in a table of its own, and the tables are put together in the order of the
+/// segments. With any number of workers the same is counted. Where the disk has no parts there is
+/// one.
+///
 /// Of a barren segment no column is read: its head tells that no message of it in the range
 /// matches. Of the others `opened` counts each.
 ///
@@ -267,41 +301,44 @@ fn group_found<D: Disk, L: Ledger, M: Ledger>(
 ///
 /// `DiskFault`, where the count of faults of the disk rose; `Damaged`, where the disk's bytes are
 /// no archive; or `OutOfMemory`. There is no output, so `SinkFault` is none of its answers.
-pub fn group<D: Disk, L: Ledger, M: Ledger>(
+pub fn group<R: Threads + Sync, D: SharedDisk, L: Ledger, M: Ledger>(
+    workers: Workers<'_, R>,
     alloc: Global,
     places: Places,
     disk: &mut D,
-    pattern: &Pattern,
-    range: &Range,
-    by: GroupBy,
+    wanted: GroupQuery<'_>,
     opened: &mut Steps<L>,
     expanded: &mut Steps<M>,
 ) -> Result<Grouped, SearchRefusal>
-    requires searched { IsSearched pattern.now }
-    requires opens { OpensPlaces (D.state disk.old).seen places }
+    requires searched { IsSearched wanted.pattern.now }
+    requires opens { OpensPlaces (D.Disk.state disk.old).seen places }
     requires order { ArePlacesOrdered places }
 
     // what stays
-    ensures rests { Rests (D.state disk.old) (D.state disk.new) }
-    ensures reads { OfJournal (D.state disk.old).seen (λ h es held. ReadsNoBarren h es held
-        (asked pattern.now range.now) (D.state disk.old).ranges (D.state disk.new).ranges) }
+    ensures rests { Rests (D.Disk.state disk.old) (D.Disk.state disk.new) }
+    ensures reads { OfJournal (D.Disk.state disk.old).seen (λ h es held. ReadsNoBarren h es held
+        (asked wanted.entry.pattern.now wanted.entry.range.now)
+        (D.Disk.state disk.old).ranges (D.Disk.state disk.new).ranges) }
 
     // by the answer
-    ensures done { IfOk result (λ g. OfJournal (D.state disk.old).seen (λ h es held. HasGrouped
-        h es held (asked pattern.now range.now) by g
+    ensures done { IfOk result (λ g. OfJournal (D.Disk.state disk.old).seen (λ h es held. HasGrouped
+        h es held (asked wanted.entry.pattern.now wanted.entry.range.now) wanted.entry.by g
         opened.old opened.new expanded.old expanded.new)) }
-    ensures stopped { OnErr result (OfJournal (D.state disk.old).seen (λ h es held.
-        HasStoppedCounting h es held (asked pattern.now range.now)
+    ensures stopped { OnErr result (OfJournal (D.Disk.state disk.old).seen (λ h es held.
+        HasStoppedCounting h es held (asked wanted.entry.pattern.now wanted.entry.range.now)
         opened.old opened.new expanded.old expanded.new)) }
 
     // causes
     ensures damaged { IsErrOf result SearchRefusal.Damaged
-        → OfJournal (D.state disk.old).seen (λ _ _ _. ⊥) }
+        → OfJournal (D.Disk.state disk.old).seen (λ _ _ _. ⊥) }
     ensures disk_counts { CountsOf SearchRefusal.DiskFault
-        (D.state disk.old).faults (D.state disk.new).faults result }
+        (D.Disk.state disk.old).faults (D.Disk.state disk.new).faults result }
     ensures sink { ¬ IsErrOf result SearchRefusal.SinkFault }
 {
-    let way = way_of(alloc, pattern, range)?;
-    let query = Query::new(alloc, pattern, range)?;
-    group_found(alloc, &query, way, places, disk, by, opened, expanded)
+    let way = way_of(alloc, wanted.pattern, wanted.range)?;
+    let query = Query::new(alloc, wanted.pattern, wanted.range)?;
+    let planned = PlannedQuery { query: &query, way };
+    group_found(
+        workers, alloc, planned, places, disk, wanted.by, opened, expanded,
+    )
 }

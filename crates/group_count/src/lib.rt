@@ -6,10 +6,14 @@
 #![tactic(auto)]
 
 mod archive_counting;
+mod beside;
 mod columns;
 mod counts;
 mod grouping;
+mod joining;
 mod judging;
+mod lane;
+mod lanes;
 pub mod laws;
 mod minutes;
 mod page_counter;
@@ -23,7 +27,8 @@ mod text_tally;
 mod types;
 mod way;
 
-pub use grouping::group;
+pub use beside::Workers;
+pub use grouping::{GroupQuery, group};
 pub use judging::judge_stored;
 pub use minutes::MinuteTable;
 pub use refusal::TableRefusal;

@@ -91,6 +91,18 @@ fn put_run(minutes: &mut BTreeMap<i64, u64>, first: i64, run: u64) -> Result<(),
     Ok(())
 }
 
+/// Adds minutes with how often each came.
+fn add_all(minutes: &mut BTreeMap<i64, u64>, more: &BTreeMap<i64, u64>) -> Result<(), AllocError>
+    ensures { OnOk result ((often others : ℤ → ℕ) → ((q : ℤ) → often q + others q < 2 ^ 64)
+        → IsTally int_cmp minutes.old often → IsTally int_cmp more.now others
+        → IsTally int_cmp minutes.new (λ q. often q + others q)) }
+{
+    for (minute, count) in more {
+        put_run(minutes, *minute, *count)?;
+    }
+    Ok(())
+}
+
 /// The groups of minutes.
 fn groups_of(alloc: Global, minutes: &BTreeMap<i64, u64>) -> Result<GroupList, AllocError>
     ensures groups { IfOk result
@@ -173,6 +185,28 @@ impl MinuteTable {
             let moment = moment_at(moments, place);
             self.count(pattern, moment)?;
         }
+        Ok(())
+    }
+
+    /// Whether moments count microseconds.
+    pub(crate) fn is_micro(&self) -> bool
+        ensures { result ≡ self.now.micro }
+    {
+        self.micro
+    }
+
+    /// Counts what was counted in another table.
+    pub(crate) fn take_in(&mut self, other: &MinuteTable) -> Result<(), AllocError>
+        ensures micro { self.new.micro ≡ self.old.micro }
+        ensures counted { OnOk result ((before keys : List (Option ℤ))
+            → AreMinutes self.old before → AreMinutes other.now keys
+            → AreMinutes self.new (before ++ keys)) }
+    {
+        put_run(&mut self.minutes, self.first, self.run)?;
+        self.run = 0;
+        add_all(&mut self.minutes, &other.minutes)?;
+        put_run(&mut self.minutes, other.first, other.run)?;
+        self.without = self.without.saturating_add(other.without);
         Ok(())
     }
 

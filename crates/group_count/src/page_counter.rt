@@ -120,6 +120,13 @@ impl<T> PageCounter<T> {
         self.room.alloc
     }
 
+    /// By what it is told which messages are found.
+    pub(crate) fn way(&self) -> Way
+        ensures { result ≡ self.now.way }
+    {
+        self.way
+    }
+
     /// Whether each message is found, whatever it is.
     pub(crate) fn finds_all(&self) -> bool
         ensures { result ≡ self.now.way.all }

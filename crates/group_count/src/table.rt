@@ -5,6 +5,7 @@ ghost use Rattle.column_store.specs.Row.{row_of};
 ghost use Rattle.column_store.specs.declared.row.Row.{Row};
 ghost use Rattle.segment_pages.specs.Paged.{HoldsNoneTold, OfRows, ReadsColumns};
 ghost use Rattle.group_count.specs.Laws.{minutes_of, numbers_of};
+ghost use Rattle.group_count.specs.StepsCounted.{IsLike};
 ghost use Rattle.group_count.specs.Tables.{AreMinutes, AreTypes};
 
 use crate::columns::{ColumnRoom, count_minutes, count_types};
@@ -14,10 +15,10 @@ use column_store::RowRef;
 use log_seams::Disk;
 use search_walk::SearchRefusal;
 use segment_pages::SegmentPages;
-use std::alloc::AllocError;
+use std::alloc::{AllocError, Global};
 
 /// What rows are counted in, one after the other, by what they have in common.
-pub(crate) trait RowTable {
+pub(crate) trait RowTable: Drop {
     // These rows were counted, of an archive of which a table knows one number: that of minutes its
     // version, and that of log types how many of these it has.
     ghost counted: { Self → ℕ → List Row → Type 0 };
@@ -46,6 +47,16 @@ pub(crate) trait RowTable {
         ensures counts { CountsOf SearchRefusal.DiskFault
             (D.state disk.old).faults (D.state disk.new).faults result }
         ensures sink { ¬ IsErrOf result SearchRefusal.SinkFault };
+
+    /// A table of the same kind, in which nothing was counted. Takes no memory.
+    fn like(&self, alloc: Global) -> Self
+        ensures { IsLike counted self.now result };
+
+    /// Counts what was counted in another table of the same kind, behind what was counted here.
+    fn join(&mut self, other: &Self) -> Result<(), AllocError>
+        ensures { OnOk result ((known : ℕ) (before rows : List Row)
+            → counted self.old known before → counted other.now known rows
+            → counted self.new known (before ++ rows)) };
 }
 
 impl RowTable for TypeTable {
@@ -63,6 +74,14 @@ impl RowTable for TypeTable {
         room: &mut ColumnRoom,
     ) -> Result<(), SearchRefusal> {
         count_types(self, pages, disk, room)
+    }
+
+    fn like(&self, alloc: Global) -> TypeTable {
+        TypeTable::new(alloc, self.limit())
+    }
+
+    fn join(&mut self, other: &TypeTable) -> Result<(), AllocError> {
+        self.take_in(other)
     }
 }
 
@@ -82,5 +101,13 @@ impl RowTable for MinuteTable {
         room: &mut ColumnRoom,
     ) -> Result<(), SearchRefusal> {
         count_minutes(self, pages, disk, room)
+    }
+
+    fn like(&self, alloc: Global) -> MinuteTable {
+        MinuteTable::new(alloc, self.is_micro())
+    }
+
+    fn join(&mut self, other: &MinuteTable) -> Result<(), AllocError> {
+        self.take_in(other)
     }
 }

@@ -1,5 +1,5 @@
 //! Messages counted by the number of their log type.
-ghost use Rattle.std.specs.Prelude.{◌≡◌, ℕ, ◌<◌, ◌≤◌, ◌^◌, ◌++◌, List, [], ◌∷◌, pos, length, slice_index_or, All, IfOk, IsErrOf, IsOk, OnOk};
+ghost use Rattle.std.specs.Prelude.{◌≡◌, ◌≢◌, ◌+◌, ℕ, ◌<◌, ◌≤◌, ◌^◌, ◌++◌, List, [], ◌∷◌, pos, length, slice_index_or, All, IfOk, IsErrOf, IsOk, OnOk};
 ghost use Rattle.group_count.specs.Tables.{AreCounts, AreGroupsBy, AreTypes, HoldTypes, LackTexts};
 
 use crate::refusal::TableRefusal;
@@ -59,6 +59,34 @@ fn count_at(counts: &mut Vec<u64>, place: usize) -> Result<(), AllocError>
     Ok(())
 }
 
+/// Counts so many at a place.
+fn add_at(counts: &mut Vec<u64>, place: usize, more: u64) -> Result<(), AllocError>
+    requires { place < 2 ^ 32 }
+    ensures few { length counts.old.items ≤ 2 ^ 32 → length counts.new.items ≤ 2 ^ 32 }
+    ensures own { OnOk result (slice_index_or counts.old.items place 0 + more < 2 ^ 64
+        → slice_index_or counts.new.items place 0
+        ≡ slice_index_or counts.old.items place 0 + more) }
+    ensures others { OnOk result ((t : ℕ) → t ≢ place
+        → slice_index_or counts.new.items t 0 ≡ slice_index_or counts.old.items t 0) }
+{
+    reach(counts, place)?;
+    counts[place] = counts[place].saturating_add(more);
+    Ok(())
+}
+
+/// Counts as many at each place as there stand.
+fn add_counts(counts: &mut Vec<u64>, more: &[u64]) -> Result<(), AllocError>
+    requires { length more.now ≤ 2 ^ 32 }
+    ensures few { length counts.old.items ≤ 2 ^ 32 → length counts.new.items ≤ 2 ^ 32 }
+    ensures added { OnOk result ((before numbers : List ℕ) → AreCounts counts.old.items before
+        → AreCounts more.now numbers → AreCounts counts.new.items (before ++ numbers)) }
+{
+    for place in 0..more.len() {
+        add_at(counts, place, more[place])?;
+    }
+    Ok(())
+}
+
 impl TypeTable {
     /// A table of so many log types, in which nothing was counted. Takes no memory.
     pub fn new(alloc: Global, limit: u32) -> TypeTable
@@ -96,6 +124,25 @@ impl TypeTable {
         for number in numbers {
             self.count(*number)?;
         }
+        Ok(())
+    }
+
+    /// How many log types there are.
+    pub(crate) fn limit(&self) -> u32
+        ensures { result ≡ self.now.limit }
+    {
+        self.limit
+    }
+
+    /// Counts what was counted in another table of as many log types.
+    pub(crate) fn take_in(&mut self, other: &TypeTable) -> Result<(), AllocError>
+        ensures limit { self.new.limit ≡ self.old.limit }
+        ensures counted { OnOk result ((before numbers : List ℕ)
+            → other.now.limit ≡ self.old.limit → HoldTypes self.old before
+            → HoldTypes other.now numbers → HoldTypes self.new (before ++ numbers)) }
+    {
+        add_counts(&mut self.counts, other.counts.as_slice())?;
+        self.beyond = self.beyond || other.beyond;
         Ok(())
     }
 

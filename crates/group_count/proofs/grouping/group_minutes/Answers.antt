@@ -5,7 +5,6 @@ use Rattle.group_count.specs.declared.counts.Counts.{Counts}
 use Rattle.group_count.specs.StepsArchive.{HasCounted}
 use Rattle.group_count.specs.StepsCounted.{sofar}
 use Rattle.group_count.specs.Tables.{MinuteState}
-use Rattle.group_count.specs.StepsServed.{IsWay}
 use Rattle.group_count.proofs.GroupedLemmas.{all_minutes, all_stopped, counted_minutes, micro_is}
 use Rattle.group_count.proofs.grouping.group_minutes.Goals as goal
 
@@ -28,11 +27,3 @@ returns-clause-done g c =
     all_minutes seen c.args.places c.requires.opens q gone e0 e1 o0 o1 c.rows_have_keys.ensures.minutes c.new-table.result k c.into_counts.result c.in_ok-grouped.grouped c.new-counter.ensures.table (micro_is c.new-table.result.micro _ c.new-table.ensures.micro) c.new-table.ensures.nothing
     c.new-counter.ensures.matched c.new-counter.ensures.expanded c.in_ok-grouped.ensures.report c.in_ok-grouped.ensures.groups c.in_ok-grouped.ensures.keys c.in_ok-grouped.ensures.without
     (subst (λ (m : Counts MinuteState). OfJournal seen (λ h es held. HasCounted counted_minutes h es held q gone (sofar k e0) (sofar m e1) o0 o1)) (sym c.into_counts.ensures) c.in_ok-gone.ensures.done)
-
-pub count_archive-requires : goal.count_archive-requires
-count_archive-requires g c = record {
-  searched = c.requires.searched;
-  opens = c.requires.opens;
-  order = c.requires.order;
-  way = subst (IsWay c.args.query.now) (sym c.new-counter.ensures.way) c.requires.way;
-}

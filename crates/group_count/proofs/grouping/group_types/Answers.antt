@@ -1,19 +1,10 @@
-use Rattle.std.proofs.Common.{◌≡◌, ◌∙◌, rules, subst, sym}
+use Rattle.std.proofs.Common.{rules, subst, sym}
 use Rattle.log_seams.proofs.MomentLemmas.{rests_on}
 use Rattle.word_places.specs.Places.{AreInOrder, OfWords}
 use Rattle.search_walk.proofs.AnswerLemmas.{on_err}
-use Rattle.group_count.specs.StepsServed.{IsWay}
 use Rattle.group_count.specs.Tables.{AreGroupsBy, LackTexts}
 use Rattle.group_count.proofs.GroupedLemmas.{all_stopped, all_types, all_types_damaged, counted_types, kept_at, types_read_again}
 use Rattle.group_count.proofs.grouping.group_types.Goals as goal
-
-pub count_archive-requires : goal.count_archive-requires
-count_archive-requires g c = record {
-  searched = c.requires.searched;
-  opens = c.requires.opens;
-  order = c.requires.order;
-  way = subst (IsWay c.args.query.now) (sym c.new-counter.ensures.way) c.requires.way;
-}
 
 pub types_of-requires-clause-order : goal.types_of-requires-clause-order
 types_of-requires-clause-order g c = subst (AreInOrder 0) (sym c.in_ok-gone.ensures.held.places) c.requires.order.0
