@@ -41,7 +41,7 @@ _clpa() {
             ;;
     esac
     case $command in
-        count) options='--by= --from= --stats --to=' ;;
+        count) options='--by= --from= --stats --to= --workers=' ;;
         create) options='--bytes= --format= --types= --words=' ;;
         ingest) options='--segment= --watch= --workers=' ;;
         search) options='--from= --stats --to= --workers=' ;;

@@ -45,7 +45,7 @@ complete -c clpa -n '__clpa_in create' -l types -x -d 'how many log types it may
 complete -c clpa -n '__clpa_in create' -l words -x -d 'how many dictionary words it may have'
 complete -c clpa -n '__clpa_in ingest' -l segment -x -d 'how many messages a segment has at most'
 complete -c clpa -n '__clpa_in ingest' -l watch -x -d 'print the messages that match as they are sealed'
-complete -c clpa -n '__clpa_in ingest search' -l workers -x -d 'how many threads'
+complete -c clpa -n '__clpa_in count ingest search' -l workers -x -d 'how many threads'
 complete -c clpa -n '__clpa_in count' -l by -x -a 'minute type' -d 'what is counted by'
 complete -c clpa -n '__clpa_in count search' -l from -x -d 'the first moment'
 complete -c clpa -n '__clpa_in count search' -l stats -d 'print the counts of the search too'

@@ -136,7 +136,7 @@ fn carry_out<R: Threads + Sync, H: Shelf, D: SharedDisk, K: Sink>(
             Some(answer(refusal_of_file(outcome), "", err))
         }
         Command::Search { asked } => Some(search_messages(rt, alloc, asked, disk, out, err)),
-        Command::Count { asked } => Some(count_messages(alloc, asked, disk, out, err)),
+        Command::Count { asked } => Some(count_messages(rt, alloc, asked, disk, out, err)),
         Command::Ingest { .. } | Command::Merge | Command::Upgrade | Command::Bench { .. } => None,
     }
 }

@@ -209,8 +209,7 @@ AnswersAsked known to_check seen old new second second_new status = AnswersCheck
 AnswersAsked known (to_decode number) seen old new second second_new status = AnswersDecode number seen old new status
 AnswersAsked known (to_search from to stats workers pattern) seen old new second second_new status =
     AnswersPattern from to stats pattern seen old new status
-AnswersAsked known (to_count by from to stats pattern) seen old new second second_new status =
-    AnswersCount by from to stats pattern seen old new status
+AnswersAsked known (to_count by from to stats workers pattern) seen old new second second_new status = AnswersCount by from to stats pattern seen old new status
 AnswersAsked known to_merge seen old new second second_new status =
     AnswersMerge known seen old new second second_new status
 AnswersAsked known to_upgrade seen old new second second_new status =

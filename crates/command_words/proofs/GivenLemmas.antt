@@ -226,8 +226,9 @@ good_count words e good =
     let from = moment_in (first_of (codes "from") rows) good.from in
     let to = moment_in (first_of (codes "to") rows) good.to in
     let stats = flag_in (first_of (codes "stats") rows) in
+    let workers = number_or 1 1 64 (first_of (codes "workers") rows) good.workers in
     let pattern = given_value (codes "pattern") rows level.0 g2.0 in
-    record { asked = to_count by.0 from.0 to.0 stats.stats pattern.0; named = refl; gives = record { by_is = by.1; from_is = from.1; to_is = to.1; stats_are = stats.is; pattern_is = pattern.1 } }
+    record { asked = to_count by.0 from.0 to.0 stats.stats workers.0 pattern.0; named = refl; gives = record { by_is = by.1; from_is = from.1; to_is = to.1; stats_are = stats.is; workers_are = workers.1; pattern_is = pattern.1 } }
 
 good_merge : IsGoodShape (ready forms.merge)
 good_merge words e good = record { asked = to_merge; named = refl; gives = tt }
@@ -414,7 +415,8 @@ asked_in_range words to_check asks = tt
 asked_in_range words (to_decode number) asks = within_in 0 4294967295 (first_of (codes "number") asks.rows) number asks.given
 asked_in_range words (to_search from to stats workers pattern) asks =
     within 1 1 64 (first_of (codes "workers") asks.rows) workers (record { low = omega arith; high = omega arith }) asks.given.workers_are
-asked_in_range words (to_count by from to stats pattern) asks = tt
+asked_in_range words (to_count by from to stats workers pattern) asks =
+    within 1 1 64 (first_of (codes "workers") asks.rows) workers (record { low = omega arith; high = omega arith }) asks.given.workers_are
 asked_in_range words to_merge asks = tt
 asked_in_range words to_upgrade asks = tt
 asked_in_range words (to_bench number lines workers) asks = record {

@@ -96,7 +96,7 @@ any_counted pattern = record {
   given = record { from_is = refl; to_is = refl; stats_are = (λ h. refl, λ h. refl); workers_are = refl; pattern_is = refl };
 }
 
-pub any_by_type : (pattern : Text) → Asks (codes "count" ∷ codes "--by=type" ∷ codes "--" ∷ pattern ∷ []) (to_count LogType None None false pattern)
+pub any_by_type : (pattern : Text) → Asks (codes "count" ∷ codes "--by=type" ∷ codes "--" ∷ pattern ∷ []) (to_count LogType None None false 1 pattern)
 unfolding clap_on_literals
 any_by_type pattern = record {
   rows = row (codes "by") (codes "type" ∷ []) ∷ row (codes "pattern") (pattern ∷ []) ∷ not_counted ∷ [];
@@ -107,11 +107,12 @@ any_by_type pattern = record {
     from_is = refl;
     to_is = refl;
     stats_are = (λ h. absurd (cc (h)), λ h. absurd (other_text (codes "false") (codes "true") refl (cc (h))));
+    workers_are = refl;
     pattern_is = refl;
   };
 }
 
-pub any_by_minute : (pattern : Text) → Asks (codes "count" ∷ codes "--by" ∷ codes "minute" ∷ codes "--" ∷ pattern ∷ []) (to_count Minute None None false pattern)
+pub any_by_minute : (pattern : Text) → Asks (codes "count" ∷ codes "--by" ∷ codes "minute" ∷ codes "--" ∷ pattern ∷ []) (to_count Minute None None false 1 pattern)
 unfolding clap_on_literals
 any_by_minute pattern = record {
   rows = row (codes "by") (codes "minute" ∷ []) ∷ row (codes "pattern") (pattern ∷ []) ∷ not_counted ∷ [];
@@ -122,6 +123,7 @@ any_by_minute pattern = record {
     from_is = refl;
     to_is = refl;
     stats_are = (λ h. absurd (cc (h)), λ h. absurd (other_text (codes "false") (codes "true") refl (cc (h))));
+    workers_are = refl;
     pattern_is = refl;
   };
 }
@@ -202,7 +204,7 @@ not_hour Minute e = other_text (codes "hour") (codes "minute") refl (cc (e))
 
 -- the words of `count` with a key that is none give nothing
 gives_no_key : (rows : List Row) → first_of (codes "by") rows ≡ Some (codes "hour") → (asked : Asked) → name_of asked ≡ codes "count" → Gives rows asked → ⊥
-gives_no_key rows is asked named = only_count (λ a. Gives rows a → ⊥) (λ by from to stats pattern gives. not_hour by (sym is ∙ gives.by_is)) asked named
+gives_no_key rows is asked named = only_count (λ a. Gives rows a → ⊥) (λ by from to stats workers pattern gives. not_hour by (sym is ∙ gives.by_is)) asked named
 
 abbrev rows_or_none : Option (Text × List Row) → List Row
 rows_or_none None = []

@@ -41,8 +41,9 @@ pub data Asked : Type 0 where
   to_decode : ℕ → Asked
   -- the first and the last moment, whether counts are printed, workers, a pattern
   to_search : Option ℤ → Option ℤ → Bool → ℕ → Text → Asked
-  -- what is counted by, the first and the last moment, whether counts of the search are printed, a pattern
-  to_count : CountKey → Option ℤ → Option ℤ → Bool → Text → Asked
+  -- what is counted by, the first and the last moment, whether counts of the search are printed, workers,
+  -- a pattern
+  to_count : CountKey → Option ℤ → Option ℤ → Bool → ℕ → Text → Asked
   to_merge : Asked
   to_upgrade : Asked
   -- a number, lines, workers
@@ -58,7 +59,7 @@ name_of to_list = codes "files"
 name_of to_check = codes "check"
 name_of (to_decode number) = codes "decode"
 name_of (to_search from to stats workers pattern) = codes "search"
-name_of (to_count by from to stats pattern) = codes "count"
+name_of (to_count by from to stats workers pattern) = codes "count"
 name_of to_merge = codes "merge"
 name_of to_upgrade = codes "upgrade"
 name_of (to_bench number lines workers) = codes "bench"
@@ -90,11 +91,12 @@ pub record IsSearch (rows : List Row) (from to : Option ℤ) (stats : Bool) (wor
 
 -- the options and the word of `count` give these
 pub record IsCount (rows : List Row) (by : CountKey) (from to : Option ℤ) (stats : Bool)
-    (pattern : Text) : Type 0 where
+    (workers : ℕ) (pattern : Text) : Type 0 where
   pub by_is : IsKeyIn (first_of (codes "by") rows) by
   pub from_is : IsMomentIn (first_of (codes "from") rows) from
   pub to_is : IsMomentIn (first_of (codes "to") rows) to
   pub stats_are : IsTrue stats ↔ (first_of (codes "stats") rows ≡ Some (codes "true"))
+  pub workers_are : IsNumberOr 1 1 64 (first_of (codes "workers") rows) workers
   pub pattern_is : first_of (codes "pattern") rows ≡ Some pattern
 
 -- the words of `bench` give these
@@ -114,7 +116,7 @@ Gives rows to_list = Unit {0}
 Gives rows to_check = Unit {0}
 Gives rows (to_decode number) = IsNumberIn 0 4294967295 (first_of (codes "number") rows) number
 Gives rows (to_search from to stats workers pattern) = IsSearch rows from to stats workers pattern
-Gives rows (to_count by from to stats pattern) = IsCount rows by from to stats pattern
+Gives rows (to_count by from to stats workers pattern) = IsCount rows by from to stats workers pattern
 Gives rows to_merge = Unit {0}
 Gives rows to_upgrade = Unit {0}
 Gives rows (to_bench number lines workers) = IsBench rows number lines workers
@@ -170,7 +172,7 @@ IsInRange to_list = Unit {0}
 IsInRange to_check = Unit {0}
 IsInRange (to_decode number) = IsWithin 0 4294967295 number
 IsInRange (to_search from to stats workers pattern) = IsWithin 1 64 workers
-IsInRange (to_count by from to stats pattern) = Unit {0}
+IsInRange (to_count by from to stats workers pattern) = IsWithin 1 64 workers
 IsInRange to_merge = Unit {0}
 IsInRange to_upgrade = Unit {0}
 IsInRange (to_bench number lines workers) = IsBenchInRange number lines workers
@@ -185,7 +187,7 @@ abbrev pub searched : SearchWords → Asked
 searched asked = to_search asked.from asked.to asked.stats asked.workers asked.pattern.now
 
 abbrev pub counted : CountWords → Asked
-counted asked = to_count asked.by asked.from asked.to asked.stats asked.pattern.now
+counted asked = to_count asked.by asked.from asked.to asked.stats asked.workers asked.pattern.now
 
 abbrev pub benched : BenchWords → Asked
 benched asked = to_bench asked.number asked.lines asked.workers

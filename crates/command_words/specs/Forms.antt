@@ -63,7 +63,7 @@ search = command (codes "search")
 abbrev pub count : Shape
 count = command (codes "count")
     (needed (codes "by") ∷ option (codes "from") ∷ option (codes "to")
-    ∷ flag (codes "stats") ∷ word (codes "pattern") ∷ [])
+    ∷ flag (codes "stats") ∷ option (codes "workers") ∷ word (codes "pattern") ∷ [])
 
 abbrev pub merge : Shape
 merge = command (codes "merge") []

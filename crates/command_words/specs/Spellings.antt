@@ -30,10 +30,10 @@ pub record AreWords : Type 0 where
       (to_search None None true 1 pattern)
   pub by_type : (pattern : Text)
       → Asks (codes "count" ∷ codes "--by=type" ∷ codes "--" ∷ pattern ∷ [])
-      (to_count LogType None None false pattern)
+      (to_count LogType None None false 1 pattern)
   pub by_minute : (pattern : Text)
       → Asks (codes "count" ∷ codes "--by" ∷ codes "minute" ∷ codes "--" ∷ pattern ∷ [])
-      (to_count Minute None None false pattern)
+      (to_count Minute None None false 1 pattern)
   pub decode : (n : ℕ) → n ≤ 4294967295
       → Asks (codes "decode" ∷ codes "--" ∷ decimal n ∷ []) (to_decode n)
 

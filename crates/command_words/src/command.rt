@@ -25,7 +25,7 @@ pub enum Command<'a> {
     Decode { number: u32 },
     /// `search [--from MS] [--to MS] [--stats] [--workers W] PATTERN`
     Search { asked: SearchWords<'a> },
-    /// `count --by KEY [--from MS] [--to MS] [--stats] PATTERN`
+    /// `count --by KEY [--from MS] [--to MS] [--stats] [--workers W] PATTERN`
     Count { asked: CountWords<'a> },
     /// `merge`
     Merge,
@@ -83,6 +83,8 @@ pub struct CountWords<'a> {
     pub to: Option<i64>,
     /// Whether the counts of the search are printed too.
     pub stats: bool,
+    /// How many workers there are: 1 to 64.
+    pub workers: u32,
     /// The pattern.
     pub pattern: &'a str,
 }

@@ -105,6 +105,7 @@ fn count<'a>(alloc: Global) -> Result<Command<'a>, AllocError>
         .arg(option(alloc, "from"))?
         .arg(option(alloc, "to"))?
         .arg(flag(alloc, "stats"))?
+        .arg(option(alloc, "workers"))?
         .arg(word(alloc, "pattern"))
 }
 

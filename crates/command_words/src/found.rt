@@ -121,20 +121,22 @@ fn read_search<'a>(found: &ArgMatches<'a>) -> Option<SearchWords<'a>>
 
 fn read_count<'a>(found: &ArgMatches<'a>) -> Option<CountWords<'a>>
     ensures some { IfSome result (λ c. Gives (rows_in found.now) (counted c)) }
-    ensures all { (by : CountKey) (from to : Option ℤ) (stats : Bool) (pattern : Text)
-        → Gives (rows_in found.now) (to_count by from to stats pattern)
-        → IsSomeAnd result (λ c. counted c ≡ to_count by from to stats pattern) }
+    ensures all { (by : CountKey) (from to : Option ℤ) (stats : Bool) (workers : ℕ) (pattern : Text)
+        → Gives (rows_in found.now) (to_count by from to stats workers pattern)
+        → IsSomeAnd result (λ c. counted c ≡ to_count by from to stats workers pattern) }
 {
     let by = key(found)?;
     let from = moment(found, "from")?;
     let to = moment(found, "to")?;
     let stats = flag(found, "stats");
+    let workers = number_or(found, "workers", 1, 64, 1)?;
     let pattern = text(found, "pattern")?;
     Some(CountWords {
         by,
         from,
         to,
         stats,
+        workers: workers as u32,
         pattern,
     })
 }

@@ -68,7 +68,8 @@ const NO_OPTION: &[&[&str]] = &[
     &["count", "a"],
     &["count", "--by", "type"],
     &["count", "--by=type", "--by=type", "a"],
-    &["count", "--by=type", "--workers=1", "a"],
+    &["count", "--by=type", "--workers=1", "--workers=1", "a"],
+    &["count", "--by=type", "--segment=1", "a"],
 ];
 
 /// Words that name nothing that messages are counted by.
@@ -97,6 +98,8 @@ const OUTSIDE: &[&[&str]] = &[
     &["decode", "4294967296"],
     &["search", "--from=9223372036854775808", "a"],
     &["search", "--to=-9223372036854775809", "a"],
+    &["count", "--by=type", "--workers=0", "a"],
+    &["count", "--by=type", "--workers=65", "a"],
     &["bench", "4294967296", "1", "1"],
     &["bench", "0", "0", "1"],
     &["bench", "0", "1000001", "1"],
@@ -379,22 +382,32 @@ fn search_has_a_range_and_a_pattern(rt: HostRuntime) -> Result<(), Fail> {
     Ok(())
 }
 
-/// Words of `count`, and what is counted by, the bounds, whether counts are printed, and the pattern.
-const COUNTS: &[(&[&str], CountKey, Option<i64>, Option<i64>, bool, &str)] = &[
+/// Words of `count`, and what is counted by, the bounds, whether counts are printed, the workers and
+/// the pattern.
+const COUNTS: &[(&[&str], CountKey, Option<i64>, Option<i64>, bool, u32, &str)] = &[
     (
         &["count", "--by", "type", "a*b"],
         CountKey::LogType,
         None,
         None,
         false,
+        1,
         "a*b",
     ),
     (
-        &["count", "", "--from=-5", "--stats", "--by=minute"],
+        &[
+            "count",
+            "",
+            "--from=-5",
+            "--stats",
+            "--workers=64",
+            "--by=minute",
+        ],
         CountKey::Minute,
         Some(-5),
         None,
         true,
+        64,
         "",
     ),
     (
@@ -405,6 +418,8 @@ const COUNTS: &[(&[&str], CountKey, Option<i64>, Option<i64>, bool, &str)] = &[
             "--by=minute",
             "--from",
             "6",
+            "--workers",
+            "2",
             "--",
             "-x",
         ],
@@ -412,24 +427,26 @@ const COUNTS: &[(&[&str], CountKey, Option<i64>, Option<i64>, bool, &str)] = &[
         Some(6),
         Some(5),
         false,
+        2,
         "-x",
     ),
 ];
 
-/// Whether the words ask to count by this in these bounds, with the counts of the search or without.
+/// Whether the words ask to count by this in these bounds, with the counts of the search or without, by
+/// so many workers.
 fn counts(
     alloc: Global,
     words: &[&str],
     by: CountKey,
     bounds: (Option<i64>, Option<i64>),
-    told: (bool, &str),
+    told: (bool, u32, &str),
 ) -> Result<bool, AllocError> {
     let all = words_of(alloc, words)?;
     Ok(match read_words(alloc, all.as_slice()) {
         Ok(Command::Count { asked }) => {
             asked.by == by
                 && (asked.from, asked.to) == bounds
-                && (asked.stats, asked.pattern) == told
+                && (asked.stats, asked.workers, asked.pattern) == told
         }
         _ => false,
     })
@@ -437,8 +454,8 @@ fn counts(
 
 #[test]
 fn count_has_a_key_and_a_pattern(rt: HostRuntime) -> Result<(), Fail> {
-    for &(words, by, from, to, stats, pattern) in COUNTS {
-        let well = counts(rt.alloc(), words, by, (from, to), (stats, pattern))?;
+    for &(words, by, from, to, stats, workers, pattern) in COUNTS {
+        let well = counts(rt.alloc(), words, by, (from, to), (stats, workers, pattern))?;
         assert!(rt; well, "{words:?}");
     }
     Ok(())

@@ -13,5 +13,6 @@ returns c =
     let s2 = adds c.in_ok-arg.field-0 c.in_ok-arg-2.field-0 c.option.result _ (forms.option (codes "from")) c.in_ok-arg-2.ensures s1 c.option.ensures in
     let s3 = adds c.in_ok-arg-2.field-0 c.in_ok-arg-3.field-0 c.option-2.result _ (forms.option (codes "to")) c.in_ok-arg-3.ensures s2 c.option-2.ensures in
     let s4 = adds c.in_ok-arg-3.field-0 c.in_ok-arg-4.field-0 c.flag.result _ (forms.flag (codes "stats")) c.in_ok-arg-4.ensures s3 c.flag.ensures in
-    IfOk-weaker c.arg-5.result _ (λ r. IsApp r (leaf forms.count)) (λ r added. adds c.in_ok-arg-4.field-0 r c.word.result _ (forms.word (codes "pattern")) added s4 c.word.ensures)
-    c.arg-5.ensures
+    let s5 = adds c.in_ok-arg-4.field-0 c.in_ok-arg-5.field-0 c.option-3.result _ (forms.option (codes "workers")) c.in_ok-arg-5.ensures s4 c.option-3.ensures in
+    IfOk-weaker c.arg-6.result _ (λ r. IsApp r (leaf forms.count)) (λ r added. adds c.in_ok-arg-5.field-0 r c.word.result _ (forms.word (codes "pattern")) added s5 c.word.ensures)
+    c.arg-6.ensures

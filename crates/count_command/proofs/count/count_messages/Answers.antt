@@ -6,8 +6,8 @@ use Rattle.command_refusals.proofs.PatternLemmas.{RefusesPattern-from, pattern_a
 use Rattle.count_command.proofs.AnswerLemmas.{count_answers, count_pattern, count_refused}
 use Rattle.count_command.proofs.count.count_messages.Goals as goal
 
-pub print_groups-outcome-requires : goal.print_groups-outcome-requires
-print_groups-outcome-requires g c = record { searched = c.wide_is_wider.ensures.searched _ _ c.in-Ok.ensures.items }
+pub print_groups-outcome-requires-clause-searched : goal.print_groups-outcome-requires-clause-searched
+print_groups-outcome-requires-clause-searched g c κs within = c.wide_is_wider.ensures.searched _ _ c.in-Ok.ensures.items
 
 pub returns-in-Ok-clause-answers : goal.returns-in-Ok-clause-answers
 returns-in-Ok-clause-answers g c = λ content unread opens reads.

@@ -11,7 +11,7 @@ pub returns-in-Ok-clause-reads : goal.returns-in-Ok-clause-reads
 returns-in-Ok-clause-reads g c = spares_counted _ _ _ _ _ _ c.in_ok-places.ensures.keeps.seen c.in_ok-places.ensures.ranges c.group-answer.ensures.reads
 
 pub returns-in-Ok-clause-counted : goal.returns-in-Ok-clause-counted
-returns-in-Ok-clause-counted g c = counted_in _ c.args.by _ _ c.in-Ok.grouped _ _ _ _ c.in_ok-places.ensures.keeps.seen c.in-Ok.ensures.done
+returns-in-Ok-clause-counted g c = counted_in _ c.args.wanted.by _ _ c.in-Ok.grouped _ _ _ _ c.in_ok-places.ensures.keeps.seen c.in-Ok.ensures.done
 
 pub returns-clause-reads : goal.returns-clause-reads
 returns-clause-reads g c = spares_counted _ _ _ _ _ _ c.in_ok-places.ensures.keeps.seen c.in_ok-places.ensures.ranges c.group-answer.ensures.reads
