@@ -4,7 +4,8 @@
 //!   names stay.
 //! - `disk TEXT` makes the archive's disk one with these bytes, `wide ROOM CALLS` an empty one with
 //!   more room.
-//! - `fault N` makes it one with the same bytes, whose call N fails.
+//! - `fault N` makes it one with the same bytes, whose call N fails, `parts N` one of which each part
+//!   fails at its call N.
 //! - `change AT BYTE` changes a byte of it.
 //! - `swap` exchanges it with that of the second archive, `aside` with one that stands aside.
 //! - `crash N KIND` makes it what a crash after N calls leaves of the one that stands aside: with
@@ -42,6 +43,14 @@ fn make_wide(machine: &mut Machine, room: u64, calls: u64) -> Result<bool, Alloc
 /// Makes it one with the same bytes, whose call of this number fails.
 fn let_fail(machine: &mut Machine, fault: u64) -> Result<bool, AllocError> {
     machine.archive = disk(machine.alloc, machine.archive.bytes(), fault)?;
+    Ok(true)
+}
+
+/// Makes it one with the same bytes, each part of which fails at its call of this number.
+fn let_parts_fail(machine: &mut Machine, fault: u64) -> Result<bool, AllocError> {
+    let fails = vec![in machine.alloc; fault; 1]?;
+    machine.archive = disk(machine.alloc, machine.archive.bytes(), NEVER)?;
+    machine.archive.fail_parts(fails);
     Ok(true)
 }
 
@@ -85,6 +94,7 @@ pub(crate) fn over_disks(
         "disk" => make_disk(machine, at(values, 0), NEVER),
         "wide" => make_wide(machine, number, second),
         "fault" => let_fail(machine, number),
+        "parts" => let_parts_fail(machine, number),
         "change" => change(machine, number, at(values, 1)),
         "crash" => crash(machine, number, second),
         "aside" => {

@@ -2,6 +2,8 @@
 use crate::play::failing_line;
 
 static SEARCH_SCRIPT: &str = r#"
+log d.log "alpha 1\nbeta 2\ngamma 3\nalpha beta 4\nalpha x5\n"
+
 # ---- a search prints what it finds
 row
 disk $numbers
@@ -17,6 +19,18 @@ call search
 is 2 "" $usage
 call search --segment=5 x
 is 2 "" $usage
+
+# ---- patterns that leave a single log type, some, none and all print alike with any workers
+row
+call create
+is 0
+call ingest --segment=2 d.log
+is 0 "0 5 whole d.log\n"
+keep types
+play types --workers=1
+play types --workers=2
+play types --workers=3
+play types --workers=5
 
 # ---- a search that cannot be made is told: a pattern that is none before any call
 disk $numbers
@@ -46,6 +60,27 @@ disk $numbers
 room 50
 call search --stats 12*34
 front 7 $text $output_failed
+
+# ---- what each pattern finds, by so many workers
+part types
+row
+disk $types
+call search $1 gamma
+is 0 "d.log:3:gamma 3\n"
+call search $1 "alpha ? "
+is 0
+call search $1 beta
+is 0 "d.log:2:beta 2\nd.log:4:alpha beta 4\n"
+call search $1 "alpha 1"
+is 0 "d.log:1:alpha 1\n"
+call search $1 x5
+is 0 "d.log:5:alpha x5\n"
+call search $1 delta
+is 0
+call search $1 a
+is 0 "d.log:1:alpha 1\nd.log:2:beta 2\nd.log:3:gamma 3\nd.log:4:alpha beta 4\nd.log:5:alpha x5\n"
+image $types
+back
 "#;
 
 #[test]
